@@ -1,0 +1,5 @@
+pub mod AddressLaws
+pub mod Addresses
+pub mod Figures
+pub mod NatBits
+pub mod NatLaws

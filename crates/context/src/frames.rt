@@ -1,0 +1,138 @@
+// Instructions on the frame: markers, calls, covers, and the registers of the frame.
+ghost use mathlib.Core.Path.{_≡_};
+ghost use Prim.Native.Nat.{ℕ, _+_, _-_, _*_, _/_, _%_, _^_, _<_, _≤_};
+ghost use Rattle.frame.specs.Markers.{sofOf, solOf, sorOf, rotationOf, lawfulWord};
+ghost use Rattle.std.specs.declared.result.Result.the-variants.{Ok, Err};
+use frame::FrameMarker;
+use register::Kind;
+use register::Slot;
+use register::put_register;
+use register::register_at;
+use super::marker_of;
+use super::refusals::Refusal;
+use super::sound::Context;
+
+impl Context {
+    // The marker of the frame.
+    pub fn marker(&self) -> FrameMarker
+        ensures { λ r. ⌜ (r .sof ≡ sofOf (now (self .entry) .stack .marker)) × (r .sol ≡ solOf (now (self .entry) .stack .marker)) × (r .sor ≡ sorOf (now (self .entry) .stack .marker)) × (r .rotation ≡ rotationOf (now (self .entry) .stack .marker)) ⌝ }
+    {
+        marker_of(self.stack.marker)
+    }
+
+    // The previous marker, of the frame that a return goes back to.
+    pub fn previous_marker(&self) -> FrameMarker
+        ensures { λ r. ⌜ (r .sof ≡ sofOf (now (self .entry) .stack .previous)) × (r .sol ≡ solOf (now (self .entry) .stack .previous)) × (r .sor ≡ sorOf (now (self .entry) .stack .previous)) × (r .rotation ≡ rotationOf (now (self .entry) .stack .previous)) ⌝ }
+    {
+        marker_of(self.stack.previous)
+    }
+
+    // The marker that the last cover saved.
+    pub fn saved_marker(&self) -> FrameMarker
+        ensures { λ r. ⌜ (r .sof ≡ sofOf (now (self .entry) .stack .saved)) × (r .sol ≡ solOf (now (self .entry) .stack .saved)) × (r .sor ≡ sorOf (now (self .entry) .stack .saved)) × (r .rotation ≡ rotationOf (now (self .entry) .stack .saved)) ⌝ }
+    {
+        marker_of(self.stack.saved)
+    }
+
+    // The first position above the frame.
+    pub fn top(&self) -> u32
+        ensures { λ r. ⌜ r ≡ now (self .entry) .stack .base + sofOf (now (self .entry) .stack .marker) ⌝ }
+    {
+        self.stack.base + self.marker().sof()
+    }
+
+    // Call: the locals go below base, and the rest of the frame is the new frame.
+    pub fn call(&mut self) {
+        let marker = self.marker();
+        let outs = marker.sof() - marker.sol();
+        self.stack.previous = self.stack.marker;
+        self.stack.base += marker.sol();
+        self.stack.marker = u64::from(outs);
+    }
+
+    // Cover: the whole frame goes below base, its marker is saved, and the frame is empty.
+    pub fn cover(&mut self) {
+        let top = self.top();
+        self.stack.saved = self.stack.marker;
+        self.stack.base = top;
+        self.stack.marker = 0;
+    }
+
+    // Rotates the rotating registers by one.
+    pub fn rotate(&mut self) {
+        let mut marker = self.marker();
+        marker.rotate();
+        self.stack.marker = marker.word();
+    }
+
+    // Sets the rotation to zero.
+    pub fn reset_rotation(&mut self) {
+        let mut marker = self.marker();
+        marker.reset_rotation();
+        self.stack.marker = marker.word();
+    }
+
+    // Sets the previous marker from its word.
+    pub fn set_previous(&mut self, word: u64) -> Result<(), Refusal> {
+        if FrameMarker::from_word(word).is_none() {
+            return Err(Refusal::Marker);
+        }
+        self.stack.previous = word;
+        Ok(())
+    }
+
+    // The position of a register of the frame.
+    pub fn position(&self, register: u64) -> Result<u64, Refusal> {
+        match self.marker().place(register) {
+            Some(offset) => Ok(u64::from(self.stack.base) + u64::from(offset)),
+            None => Err(Refusal::Register),
+        }
+    }
+
+    // Writes the content of a word, and a NaT bit.
+    pub fn write<K: Kind>(&self, slots: &mut [Slot<K>], register: u64, word: u64, nat: bool) -> Result<(), Refusal> {
+        let position = self.position(register)?;
+        put_register(
+            slots,
+            position,
+            Slot {
+                content: K::of_word(word),
+                nat,
+            },
+        );
+        Ok(())
+    }
+
+    // Copies a register to another.
+    pub fn copy<K: Kind>(&self, slots: &mut [Slot<K>], target: u64, source: u64) -> Result<(), Refusal> {
+        let to = self.position(target)?;
+        let from = self.position(source)?;
+        let register = register_at(slots, from);
+        put_register(slots, to, register);
+        Ok(())
+    }
+
+    // Sums two registers into another; the NaT bit is set if either was.
+    pub fn add<K: Kind>(&self, slots: &mut [Slot<K>], target: u64, left: u64, right: u64) -> Result<(), Refusal> {
+        let to = self.position(target)?;
+        let first = self.position(left)?;
+        let second = self.position(right)?;
+        let a = register_at(slots, first);
+        let b = register_at(slots, second);
+        put_register(
+            slots,
+            to,
+            Slot {
+                content: a.content.sum(b.content),
+                nat: a.nat || b.nat,
+            },
+        );
+        Ok(())
+    }
+
+    // The register's content and NaT bit.
+    pub fn read<K: Kind>(&self, slots: &[Slot<K>], register: u64) -> Result<Slot<K>, Refusal> {
+        let position = self.position(register)?;
+        Ok(register_at(slots, position))
+    }
+}

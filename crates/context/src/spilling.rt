@@ -1,0 +1,131 @@
+// Instructions that spill: alloc, flush, the early spill; and the early fill.
+ghost use mathlib.Core.Path.{_≡_};
+ghost use Prim.Native.Nat.{ℕ, _+_, _-_, _*_, _/_, _%_, _^_, _<_, _≤_};
+ghost use Rattle.address.specs.Addresses.{capacityOf};
+ghost use Rattle.frame.specs.Markers.{sofOf, solOf, sorOf, rotationOf, lawfulWord};
+ghost use Rattle.std.specs.declared.result.Result.the-variants.{Ok, Err};
+ghost use Rattle.context.specs.Records.{Kept};
+use address::address_of;
+use address::capacity;
+use frame::FrameMarker;
+use moves::Cursor;
+use moves::MoveFault;
+use moves::fill;
+use moves::spill_step;
+use moves::spill_until;
+use register::Kind;
+use register::Slot;
+use register::clear_registers;
+use store::Store;
+use super::refusals::Refusal;
+use super::refusals::RefusalFromMoveFault;
+use super::sound::Context;
+
+impl Context {
+    // Takes over where the moves stand.
+    pub(crate) fn settle(&mut self, at: Cursor)
+        ensures { λ _. ⌜ Kept (now (self .entry) .stack) (now (self .exit) .stack) ⌝ }
+    {
+        self.stack.bspstore = at.bspstore;
+        self.stack.rnat = at.rnat;
+        self.counts = at.counts;
+    }
+
+    // Spills until BSPSTORE is `end`.
+    pub(crate) fn spill_to<K: Kind, S: Store>(&mut self, slots: &[Slot<K>], store: &mut S, end: u64) -> Result<(), MoveFault>
+        ensures { λ _. ⌜ Kept (now (self .entry) .stack) (now (self .exit) .stack) ⌝ }
+    {
+        let mut at = self.stack.cursor(self.counts);
+        let moved = spill_until(&mut at, slots, store, end, self.number);
+        self.settle(at);
+        moved
+    }
+
+    // The word past the last that is spilled until all positions below `floor` are stored.
+    pub(crate) fn spill_end(&self, floor: u32) -> u64 {
+        if self.stack.stored() < u64::from(floor) && floor > 0 {
+            address_of(self.stack.start, floor - 1) + 1
+        } else {
+            self.stack.bspstore
+        }
+    }
+
+    // The lowest position that a file of so many slots holds below `top`.
+    pub(crate) fn floor(top: u32, slots: u64) -> u32
+        ensures { λ r. ⌜ r ≡ top - slots ⌝ }
+    {
+        u64::from(top).saturating_sub(slots) as u32
+    }
+
+    // The marker that alloc sets, where it is lawful and the new top lies in the region.
+    fn allocated(&self, sof: u64, sol: u64, sor: u64) -> Result<FrameMarker, Refusal>
+        ensures { λ r. ⌜ elim r [ Ok m ↦ now (self .entry) .stack .base + m .sof ≤ capacityOf (now (self .entry) .stack .size) | Err _ ↦ Unit {0} ] ⌝ }
+    {
+        let old = self.marker();
+        let Some(shape) = FrameMarker::from_parts(sof, sol, sor, 0) else {
+            return Err(Refusal::Marker);
+        };
+        if shape.sor() != old.sor() && old.rotation() != 0 {
+            return Err(Refusal::Rotation);
+        }
+        if u64::from(self.stack.base + shape.sof()) > capacity(self.stack.size) {
+            return Err(Refusal::Top);
+        }
+        let Some(marker) = FrameMarker::from_parts(sof, sol, sor, u64::from(old.rotation())) else {
+            return Err(Refusal::Rotation);
+        };
+        Ok(marker)
+    }
+
+    // Alloc: makes room for the new frame by spills, and clears the positions that top rises past.
+    pub fn alloc<K: Kind, S: Store>(
+        &mut self,
+        slots: &mut [Slot<K>],
+        store: &mut S,
+        sof: u64,
+        sol: u64,
+        sor: u64,
+    ) -> Result<u64, Refusal> {
+        let marker = self.allocated(sof, sol, sor)?;
+        let old_top = self.top();
+        let top = self.stack.base + marker.sof();
+        let floor = Context::floor(top, slots.len() as u64);
+        let end = self.spill_end(floor);
+        self.spill_to(slots, store, end)?;
+        clear_registers(slots, u64::from(old_top), u64::from(top));
+        self.stack.lo = self.stack.lo.max(floor);
+        self.stack.marker = marker.word();
+        Ok(self.stack.previous)
+    }
+
+    // Flush: spills until BSPSTORE is BSP, and answers BSP and RNAT.
+    pub fn flush<K: Kind, S: Store>(&mut self, slots: &[Slot<K>], store: &mut S) -> Result<(u64, u64), Refusal> {
+        let bsp = self.stack.bsp();
+        self.spill_to(slots, store, bsp)?;
+        Ok((bsp, self.stack.rnat))
+    }
+
+    // One early spill step.
+    pub fn early_spill<K: Kind, S: Store>(&mut self, slots: &[Slot<K>], store: &mut S) -> Result<(), Refusal> {
+        if self.stack.bspstore >= self.stack.bsp() {
+            return Err(Refusal::Nothing);
+        }
+        let mut at = self.stack.cursor(self.counts);
+        spill_step(&mut at, slots, store, self.number)?;
+        self.settle(at);
+        Ok(())
+    }
+
+    // One early fill, of the position below `lo`.
+    pub fn early_fill<K: Kind, S: Store>(&mut self, slots: &mut [Slot<K>], store: &S) -> Result<(), Refusal> {
+        let lo = self.stack.lo;
+        if lo == 0 || u64::from(self.top().saturating_sub(lo)) >= slots.len() as u64 {
+            return Err(Refusal::Nothing);
+        }
+        let mut at = self.stack.cursor(self.counts);
+        fill(&mut at, slots, store, lo - 1, self.number)?;
+        self.settle(at);
+        self.stack.lo = lo - 1;
+        Ok(())
+    }
+}

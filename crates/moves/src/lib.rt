@@ -1,0 +1,35 @@
+// Moves of registers between the file and the backing store (docs/RULES.md, "Moves"), for every store and every kind.
+ghost use mathlib.Core.Path.{_≡_};
+ghost use Prim.Native.Nat.{ℕ, _+_, _-_, _*_, _/_, _%_, _^_, _<_, _≤_};
+ghost use Rattle.std.specs.declared.result.Result.the-variants.{Ok, Err};
+
+mod asking;
+mod state;
+mod fills;
+mod lowers;
+mod spills;
+
+pub use asking::ask_fills;
+pub use asking::ask_lowering;
+pub use asking::ask_spills;
+pub use state::Counts;
+pub use state::Cursor;
+pub use state::MoveFault;
+pub use state::Movement;
+pub use state::Place;
+pub use fills::fill;
+pub use fills::fill_run;
+pub use lowers::lower;
+pub use spills::spill_step;
+pub use spills::spill_until;
+use store::StoreFault;
+
+// Adds to a store's fault the move that met it.
+pub fn at_place<T>(result: Result<T, StoreFault>, place: Place) -> Result<T, MoveFault>
+    ensures { λ r. ⌜ elim result [ Ok v ↦ r ≡ Ok v | Err e ↦ r ≡ Err (record { fault = e; place = place }) ] ⌝ }
+{
+    match result {
+        Ok(v) => Ok(v),
+        Err(fault) => Err(MoveFault { fault, place }),
+    }
+}

@@ -1,0 +1,5 @@
+pub mod Meaning
+pub mod Rules
+pub mod Frames
+pub mod Paging
+pub mod Paged
