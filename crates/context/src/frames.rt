@@ -3,14 +3,14 @@ ghost use mathlib.Core.Path.{_≡_};
 ghost use Prim.Native.Nat.{ℕ, _+_, _-_, _*_, _/_, _%_, _^_, _<_, _≤_};
 ghost use Rattle.frame.specs.Markers.{sofOf, solOf, sorOf, rotationOf, lawfulWord};
 ghost use Rattle.std.specs.declared.result.Result.the-variants.{Ok, Err};
+use super::marker_of;
+use super::refusals::Refusal;
+use super::sound::Context;
 use frame::FrameMarker;
 use register::Kind;
 use register::Slot;
 use register::put_register;
 use register::register_at;
-use super::marker_of;
-use super::refusals::Refusal;
-use super::sound::Context;
 
 impl Context {
     // The marker of the frame.
@@ -90,7 +90,13 @@ impl Context {
     }
 
     // Writes the content of a word, and a NaT bit.
-    pub fn write<K: Kind>(&self, slots: &mut [Slot<K>], register: u64, word: u64, nat: bool) -> Result<(), Refusal> {
+    pub fn write<K: Kind>(
+        &self,
+        slots: &mut [Slot<K>],
+        register: u64,
+        word: u64,
+        nat: bool,
+    ) -> Result<(), Refusal> {
         let position = self.position(register)?;
         put_register(
             slots,
@@ -104,7 +110,12 @@ impl Context {
     }
 
     // Copies a register to another.
-    pub fn copy<K: Kind>(&self, slots: &mut [Slot<K>], target: u64, source: u64) -> Result<(), Refusal> {
+    pub fn copy<K: Kind>(
+        &self,
+        slots: &mut [Slot<K>],
+        target: u64,
+        source: u64,
+    ) -> Result<(), Refusal> {
         let to = self.position(target)?;
         let from = self.position(source)?;
         let register = register_at(slots, from);
@@ -113,7 +124,13 @@ impl Context {
     }
 
     // Sums two registers into another; the NaT bit is set if either was.
-    pub fn add<K: Kind>(&self, slots: &mut [Slot<K>], target: u64, left: u64, right: u64) -> Result<(), Refusal> {
+    pub fn add<K: Kind>(
+        &self,
+        slots: &mut [Slot<K>],
+        target: u64,
+        left: u64,
+        right: u64,
+    ) -> Result<(), Refusal> {
         let to = self.position(target)?;
         let first = self.position(left)?;
         let second = self.position(right)?;

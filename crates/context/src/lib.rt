@@ -27,7 +27,12 @@ impl Region {
     // The region, where it is well formed in a store of `length` words: both numbers multiples of 64, at least 64
     // words, and all of them in the store.
     pub fn new(start: u64, size: u64, length: u64) -> Option<Region> {
-        if start > LONGEST_STORE || size > LONGEST_STORE || start % 64 != 0 || size % 64 != 0 || size < 64 {
+        if start > LONGEST_STORE
+            || size > LONGEST_STORE
+            || start % 64 != 0
+            || size % 64 != 0
+            || size < 64
+        {
             return None;
         }
         if start + size > length || length > LONGEST_STORE {

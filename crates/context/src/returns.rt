@@ -3,6 +3,10 @@ ghost use mathlib.Core.Path.{_≡_};
 ghost use Prim.Native.Nat.{ℕ, _+_, _-_, _*_, _/_, _%_, _^_, _<_, _≤_};
 ghost use Rattle.address.specs.Addresses.{capacityOf};
 ghost use Rattle.context.specs.Records.{Kept};
+use super::record::Status;
+use super::refusals::Refusal;
+use super::refusals::RefusalFromMoveFault;
+use super::sound::Context;
 use address::address_of;
 use address::capacity;
 use address::is_collection;
@@ -18,13 +22,15 @@ use register::Kind;
 use register::Slot;
 use register::clear_registers;
 use store::Store;
-use super::refusals::Refusal;
-use super::refusals::RefusalFromMoveFault;
-use super::sound::Context;
 
 impl Context {
     // Spills, all asked about first, until all positions below `floor` are stored.
-    fn make_room<K: Kind, S: Store>(&mut self, slots: &[Slot<K>], store: &mut S, floor: u32) -> Result<(), MoveFault>
+    fn make_room<K: Kind, S: Store>(
+        &mut self,
+        slots: &[Slot<K>],
+        store: &mut S,
+        floor: u32,
+    ) -> Result<(), MoveFault>
         ensures { λ _. ⌜ Kept (now (self .entry) .stack) (now (self .exit) .stack) ⌝ }
     {
         let end = self.spill_end(floor);
@@ -80,7 +86,13 @@ impl Context {
     }
 
     // Brings the frame from `base` to `top` − 1 into the file.
-    fn bring_in<K: Kind, S: Store>(&mut self, slots: &mut [Slot<K>], store: &mut S, base: u32, top: u32) -> Result<(), MoveFault>
+    fn bring_in<K: Kind, S: Store>(
+        &mut self,
+        slots: &mut [Slot<K>],
+        store: &mut S,
+        base: u32,
+        top: u32,
+    ) -> Result<(), MoveFault>
         ensures { λ _. ⌜ Kept (now (self .entry) .stack) (now (self .exit) .stack) ⌝ }
     {
         let floor = Context::floor(top, slots.len() as u64);
@@ -90,7 +102,13 @@ impl Context {
     }
 
     // Goes back to the frame of `marker` at `base`.
-    fn go_back<K: Kind, S: Store>(&mut self, slots: &mut [Slot<K>], store: &mut S, base: u32, marker: FrameMarker) -> Result<(), MoveFault>
+    fn go_back<K: Kind, S: Store>(
+        &mut self,
+        slots: &mut [Slot<K>],
+        store: &mut S,
+        base: u32,
+        marker: FrameMarker,
+    ) -> Result<(), MoveFault>
         requires { ⌜ base + marker .sof ≤ capacityOf (now self .stack .size) ⌝ }
     {
         let old_top = self.top();
@@ -103,7 +121,11 @@ impl Context {
     }
 
     // Return: the previous marker is the marker again, and base falls by its locals.
-    pub fn return_to_caller<K: Kind, S: Store>(&mut self, slots: &mut [Slot<K>], store: &mut S) -> Result<(), Refusal> {
+    pub fn return_to_caller<K: Kind, S: Store>(
+        &mut self,
+        slots: &mut [Slot<K>],
+        store: &mut S,
+    ) -> Result<(), Refusal> {
         let marker = self.previous_marker();
         let base = self.stack.base;
         let top = u64::from(base + (marker.sof() - marker.sol()));
@@ -118,7 +140,11 @@ impl Context {
     }
 
     // Restore: the saved marker is the marker again, and base falls by its frame. A cover has put that frame below base.
-    pub fn restore<K: Kind, S: Store>(&mut self, slots: &mut [Slot<K>], store: &mut S) -> Result<(), Refusal> {
+    pub fn restore<K: Kind, S: Store>(
+        &mut self,
+        slots: &mut [Slot<K>],
+        store: &mut S,
+    ) -> Result<(), Refusal> {
         let marker = self.saved_marker();
         let base = self.stack.base;
         if marker.sof() > base {
@@ -129,7 +155,12 @@ impl Context {
     }
 
     // Load: fills anew the registers of the `words` words below BSP, and lowers BSPSTORE by as many; they are dirty then.
-    pub fn load<K: Kind, S: Store>(&mut self, slots: &mut [Slot<K>], store: &S, words: u64) -> Result<(), Refusal> {
+    pub fn load<K: Kind, S: Store>(
+        &mut self,
+        slots: &mut [Slot<K>],
+        store: &S,
+        words: u64,
+    ) -> Result<(), Refusal> {
         let bsp = self.stack.bsp();
         if words > bsp - u64::from(self.stack.start) {
             return Err(Refusal::Below);
@@ -146,11 +177,13 @@ impl Context {
 
     // Parks: no slot holds a position any more.
     pub fn park(&mut self) {
+        self.stack.status = Status::Parked;
         self.stack.lo = self.stack.base;
     }
 
     // Resumes: the file holds nothing, and all below base is stored.
     pub fn resume(&mut self) {
+        self.stack.status = Status::Current;
         self.stack.lo = self.stack.base;
         self.stack.bspstore = self.stack.bsp();
     }

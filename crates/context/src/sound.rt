@@ -4,8 +4,8 @@ ghost use mathlib.Core.Bool.{true};
 ghost use Prim.Native.Nat.{_+_, _≤_};
 ghost use Rattle.address.specs.Addresses.{capacityOf};
 ghost use Rattle.frame.specs.Markers.{sofOf, lawfulWord};
-use moves::Counts;
 use super::record::ContextRecord;
+use moves::Counts;
 
 // A context that is driven: its stack, its number in faults, and the counts of words moved.
 #[derive(Clone, Copy)]

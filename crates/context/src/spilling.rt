@@ -5,6 +5,9 @@ ghost use Rattle.address.specs.Addresses.{capacityOf};
 ghost use Rattle.frame.specs.Markers.{sofOf, solOf, sorOf, rotationOf, lawfulWord};
 ghost use Rattle.std.specs.declared.result.Result.the-variants.{Ok, Err};
 ghost use Rattle.context.specs.Records.{Kept};
+use super::refusals::Refusal;
+use super::refusals::RefusalFromMoveFault;
+use super::sound::Context;
 use address::address_of;
 use address::capacity;
 use frame::FrameMarker;
@@ -17,9 +20,6 @@ use register::Kind;
 use register::Slot;
 use register::clear_registers;
 use store::Store;
-use super::refusals::Refusal;
-use super::refusals::RefusalFromMoveFault;
-use super::sound::Context;
 
 impl Context {
     // Takes over where the moves stand.
@@ -32,7 +32,12 @@ impl Context {
     }
 
     // Spills until BSPSTORE is `end`.
-    pub(crate) fn spill_to<K: Kind, S: Store>(&mut self, slots: &[Slot<K>], store: &mut S, end: u64) -> Result<(), MoveFault>
+    pub(crate) fn spill_to<K: Kind, S: Store>(
+        &mut self,
+        slots: &[Slot<K>],
+        store: &mut S,
+        end: u64,
+    ) -> Result<(), MoveFault>
         ensures { λ _. ⌜ Kept (now (self .entry) .stack) (now (self .exit) .stack) ⌝ }
     {
         let mut at = self.stack.cursor(self.counts);
@@ -99,14 +104,22 @@ impl Context {
     }
 
     // Flush: spills until BSPSTORE is BSP, and answers BSP and RNAT.
-    pub fn flush<K: Kind, S: Store>(&mut self, slots: &[Slot<K>], store: &mut S) -> Result<(u64, u64), Refusal> {
+    pub fn flush<K: Kind, S: Store>(
+        &mut self,
+        slots: &[Slot<K>],
+        store: &mut S,
+    ) -> Result<(u64, u64), Refusal> {
         let bsp = self.stack.bsp();
         self.spill_to(slots, store, bsp)?;
         Ok((bsp, self.stack.rnat))
     }
 
     // One early spill step.
-    pub fn early_spill<K: Kind, S: Store>(&mut self, slots: &[Slot<K>], store: &mut S) -> Result<(), Refusal> {
+    pub fn early_spill<K: Kind, S: Store>(
+        &mut self,
+        slots: &[Slot<K>],
+        store: &mut S,
+    ) -> Result<(), Refusal> {
         if self.stack.bspstore >= self.stack.bsp() {
             return Err(Refusal::Nothing);
         }
@@ -117,7 +130,11 @@ impl Context {
     }
 
     // One early fill, of the position below `lo`.
-    pub fn early_fill<K: Kind, S: Store>(&mut self, slots: &mut [Slot<K>], store: &S) -> Result<(), Refusal> {
+    pub fn early_fill<K: Kind, S: Store>(
+        &mut self,
+        slots: &mut [Slot<K>],
+        store: &S,
+    ) -> Result<(), Refusal> {
         let lo = self.stack.lo;
         if lo == 0 || u64::from(self.top().saturating_sub(lo)) >= slots.len() as u64 {
             return Err(Refusal::Nothing);

@@ -8,7 +8,7 @@ use lib.Seq.{getD-set-same, getD-set-other}
 use Rattle.std.proofs.shelf.Tests.{cases-eq}
 
 pub put-in : {X : Type 0} (P : X → Type 0) (xs : List X) (i : ℕ) (x d : X) → i < length xs → P x → ((k : ℕ) → P (getD xs k d))
-  → (k : ℕ) → P (getD (set xs i x) k d)
+    → (k : ℕ) → P (getD (set xs i x) k d)
 put-in P xs i x d h new old k =
     elim (cases-eq k i) [
       | inl e ↦ subst (λ j. P (getD (set xs i x) j d)) (sym e) (subst P (sym (getD-set-same xs i x d h)) new)

@@ -36,13 +36,28 @@ pub enum Answer {
     // A marker's word.
     Marker(u64),
     // A register's image and NaT bit.
-    Register { image: u64, nat: bool },
+    Register {
+        image: u64,
+        nat: bool,
+    },
     // BSP and RNAT.
-    Flushed { bsp: u64, rnat: u64 },
+    Flushed {
+        bsp: u64,
+        rnat: u64,
+    },
     // State, context, base, marker word and BSP.
-    State { state: u64, context: u64, base: u64, marker: u64, bsp: u64 },
+    State {
+        state: u64,
+        context: u64,
+        base: u64,
+        marker: u64,
+        bsp: u64,
+    },
     // Words written and words read.
-    Counts { written: u64, read: u64 },
+    Counts {
+        written: u64,
+        read: u64,
+    },
 }
 
 // The answer of a read.

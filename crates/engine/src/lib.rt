@@ -15,9 +15,9 @@ use context::Refusal;
 pub use instructions::Answer;
 pub use instructions::Instruction;
 pub use machine::ContextTable;
+use machine::EMPTY;
 pub use machine::Machine;
 pub use machine::State;
-use machine::EMPTY;
 use moves::Counts;
 use register::Kind;
 use register::Slot;
@@ -69,24 +69,61 @@ impl Engine {
             (_, Instruction::SetMode { mode }) => Ok(self.set_mode(mode)),
             (_, Instruction::State) => Ok(self.state()),
             (_, Instruction::Counts) => Ok(self.counts()),
-            (State::Idle, Instruction::Begin { context, start, size }) => self.begin(context, start, size),
+            (
+                State::Idle,
+                Instruction::Begin {
+                    context,
+                    start,
+                    size,
+                },
+            ) => self.begin(context, start, size),
             (State::Idle, Instruction::Resume { context }) => self.resume(context),
             (State::Idle, Instruction::Retire { context }) => self.retire(context),
-            (State::Running, Instruction::Alloc { sof, sol, sor }) => self.alloc(slots, store, sof, sol, sor),
+            (State::Running, Instruction::Alloc { sof, sol, sor }) => self.alloc(
+                slots,
+                store,
+                sof,
+                sol,
+                sor,
+            ),
             (State::Running, Instruction::Call) => Ok(self.call()),
             (State::Running, Instruction::Return) => self.return_to_caller(slots, store),
             (State::Running, Instruction::Cover) => Ok(self.cover()),
-            (State::Running, Instruction::Write { register, word, nat }) => self.write(slots, register, word, nat),
-            (State::Running, Instruction::Copy { target, source }) => self.copy(slots, target, source),
-            (State::Running, Instruction::Add { target, left, right }) => self.add(slots, target, left, right),
+            (
+                State::Running,
+                Instruction::Write {
+                    register,
+                    word,
+                    nat,
+                },
+            ) => self.write(slots, register, word, nat),
+            (State::Running, Instruction::Copy { target, source }) => self.copy(
+                slots,
+                target,
+                source,
+            ),
+            (
+                State::Running,
+                Instruction::Add {
+                    target,
+                    left,
+                    right,
+                },
+            ) => self.add(slots, target, left, right),
             (State::Running, Instruction::Read { register }) => self.read(slots, register),
             (State::Running, Instruction::Rotate) => Ok(self.rotate()),
             (State::Running, Instruction::ResetRotation) => Ok(self.reset_rotation()),
             (State::Running, Instruction::Previous) => Ok(self.previous()),
             (State::Running, Instruction::SetPrevious { word }) => self.set_previous(word),
             (State::Running | State::Covered, Instruction::Flush) => self.flush(slots, store),
-            (State::Running | State::Covered, Instruction::EarlySpill) => self.early_spill(slots, store),
-            (State::Running | State::Covered, Instruction::EarlyFill) => self.early_fill(slots, store),
+            (State::Running | State::Covered, Instruction::EarlySpill) => self.early_spill(
+                slots,
+                store,
+            ),
+            (State::Running | State::Covered, Instruction::EarlyFill) => self.early_fill(
+                slots,
+                store,
+            ),
             (State::Covered | State::Flushed, Instruction::Restore) => self.restore(slots, store),
             (State::Flushed, Instruction::Load { words }) => self.load(slots, store, words),
             (State::Flushed, Instruction::Park) => Ok(self.park()),

@@ -1,12 +1,12 @@
 // Instructions on the context that is driven: each takes it out of its entry, and puts it back.
-use context::Refusal;
-use register::Kind;
-use register::Slot;
-use store::Store;
 use super::instructions::Answer;
 use super::instructions::shown;
 use super::machine::State;
 use super::sound::Engine;
+use context::Refusal;
+use register::Kind;
+use register::Slot;
+use store::Store;
 
 impl Engine {
     // At a shut word the spills before it stand.
@@ -31,7 +31,11 @@ impl Engine {
         Answer::Done
     }
 
-    pub(crate) fn return_to_caller<K: Kind, S: Store>(&mut self, slots: &mut [Slot<K>], store: &mut S) -> Result<Answer, Refusal> {
+    pub(crate) fn return_to_caller<K: Kind, S: Store>(
+        &mut self,
+        slots: &mut [Slot<K>],
+        store: &mut S,
+    ) -> Result<Answer, Refusal> {
         let mut context = self.context();
         context.return_to_caller(slots, store)?;
         self.put(context);
@@ -46,22 +50,43 @@ impl Engine {
         Answer::Done
     }
 
-    pub(crate) fn write<K: Kind>(&self, slots: &mut [Slot<K>], register: u64, word: u64, nat: u64) -> Result<Answer, Refusal> {
+    pub(crate) fn write<K: Kind>(
+        &self,
+        slots: &mut [Slot<K>],
+        register: u64,
+        word: u64,
+        nat: u64,
+    ) -> Result<Answer, Refusal> {
         self.context().write(slots, register, word, nat == 1)?;
         Ok(Answer::Done)
     }
 
-    pub(crate) fn copy<K: Kind>(&self, slots: &mut [Slot<K>], target: u64, source: u64) -> Result<Answer, Refusal> {
+    pub(crate) fn copy<K: Kind>(
+        &self,
+        slots: &mut [Slot<K>],
+        target: u64,
+        source: u64,
+    ) -> Result<Answer, Refusal> {
         self.context().copy(slots, target, source)?;
         Ok(Answer::Done)
     }
 
-    pub(crate) fn add<K: Kind>(&self, slots: &mut [Slot<K>], target: u64, left: u64, right: u64) -> Result<Answer, Refusal> {
+    pub(crate) fn add<K: Kind>(
+        &self,
+        slots: &mut [Slot<K>],
+        target: u64,
+        left: u64,
+        right: u64,
+    ) -> Result<Answer, Refusal> {
         self.context().add(slots, target, left, right)?;
         Ok(Answer::Done)
     }
 
-    pub(crate) fn read<K: Kind>(&self, slots: &[Slot<K>], register: u64) -> Result<Answer, Refusal> {
+    pub(crate) fn read<K: Kind>(
+        &self,
+        slots: &[Slot<K>],
+        register: u64,
+    ) -> Result<Answer, Refusal> {
         Ok(shown(self.context().read(slots, register)?))
     }
 
@@ -90,7 +115,11 @@ impl Engine {
         Ok(Answer::Done)
     }
 
-    pub(crate) fn restore<K: Kind, S: Store>(&mut self, slots: &mut [Slot<K>], store: &mut S) -> Result<Answer, Refusal> {
+    pub(crate) fn restore<K: Kind, S: Store>(
+        &mut self,
+        slots: &mut [Slot<K>],
+        store: &mut S,
+    ) -> Result<Answer, Refusal> {
         let mut context = self.context();
         context.restore(slots, store)?;
         self.put(context);
@@ -99,7 +128,11 @@ impl Engine {
     }
 
     // At a shut word the spills before it stand. A covered context is flushed then, a running one goes on.
-    pub(crate) fn flush<K: Kind, S: Store>(&mut self, slots: &[Slot<K>], store: &mut S) -> Result<Answer, Refusal> {
+    pub(crate) fn flush<K: Kind, S: Store>(
+        &mut self,
+        slots: &[Slot<K>],
+        store: &mut S,
+    ) -> Result<Answer, Refusal> {
         let mut context = self.context();
         let flushed = context.flush(slots, store);
         self.put(context);
@@ -111,7 +144,11 @@ impl Engine {
     }
 
     // Bit 0 of the mode allows early spills.
-    pub(crate) fn early_spill<K: Kind, S: Store>(&mut self, slots: &[Slot<K>], store: &mut S) -> Result<Answer, Refusal> {
+    pub(crate) fn early_spill<K: Kind, S: Store>(
+        &mut self,
+        slots: &[Slot<K>],
+        store: &mut S,
+    ) -> Result<Answer, Refusal> {
         if self.machine.mode % 2 == 0 {
             return Err(Refusal::Mode);
         }
@@ -122,7 +159,11 @@ impl Engine {
     }
 
     // Bit 1 of the mode allows early fills.
-    pub(crate) fn early_fill<K: Kind, S: Store>(&mut self, slots: &mut [Slot<K>], store: &S) -> Result<Answer, Refusal> {
+    pub(crate) fn early_fill<K: Kind, S: Store>(
+        &mut self,
+        slots: &mut [Slot<K>],
+        store: &S,
+    ) -> Result<Answer, Refusal> {
         if self.machine.mode / 2 % 2 == 0 {
             return Err(Refusal::Mode);
         }
@@ -132,7 +173,12 @@ impl Engine {
         Ok(Answer::Done)
     }
 
-    pub(crate) fn load<K: Kind, S: Store>(&mut self, slots: &mut [Slot<K>], store: &S, words: u64) -> Result<Answer, Refusal> {
+    pub(crate) fn load<K: Kind, S: Store>(
+        &mut self,
+        slots: &mut [Slot<K>],
+        store: &S,
+        words: u64,
+    ) -> Result<Answer, Refusal> {
         let mut context = self.context();
         context.load(slots, store, words)?;
         self.put(context);

@@ -1,14 +1,14 @@
 // Instructions on the table: begin, resume, retire, park; and the questions that alter nothing.
 ghost use Prim.Native.Nat.{ℕ, _+_, _≤_, _<_};
+use super::instructions::Answer;
+use super::machine::EMPTY;
+use super::machine::State;
+use super::sound::Engine;
 use context::Context;
 use context::ContextRecord;
 use context::Refusal;
 use context::Region;
 use context::Status;
-use super::instructions::Answer;
-use super::machine::EMPTY;
-use super::machine::State;
-use super::sound::Engine;
 
 // Do a region and a context's lie apart?
 fn apart(region: Region, other: &ContextRecord) -> bool {
@@ -89,7 +89,11 @@ impl Engine {
         if !self.is_clear(region) {
             return Err(Refusal::Overlap);
         }
-        self.drive(k, Context::begin(region, context, self.machine.counts), State::Running);
+        self.drive(
+            k,
+            Context::begin(region, context, self.machine.counts),
+            State::Running,
+        );
         Ok(Answer::Done)
     }
 

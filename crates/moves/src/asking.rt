@@ -1,15 +1,15 @@
 // Asking: is every word that a move needs open? The lowest shut one is told, before anything moves. Asking counts nothing.
+use super::at_place;
+use super::lowers::reads_collection;
+use super::state::Cursor;
+use super::state::MoveFault;
+use super::state::Movement;
+use super::state::Place;
 use address::address_of;
 use address::collection_of;
 use address::group_of;
 use address::positions_below;
 use store::Store;
-use super::at_place;
-use super::state::Cursor;
-use super::state::MoveFault;
-use super::state::Movement;
-use super::state::Place;
-use super::lowers::reads_collection;
 
 // One word: the store's own fault where it is shut or missing.
 fn ask<S: Store>(store: &S, word: u64, place: Place) -> Result<(), MoveFault> {
@@ -21,7 +21,12 @@ fn ask<S: Store>(store: &S, word: u64, place: Place) -> Result<(), MoveFault> {
 }
 
 // The words that spills until `end` write.
-pub fn ask_spills<S: Store>(at: &Cursor, store: &S, end: u64, context: u64) -> Result<(), MoveFault> {
+pub fn ask_spills<S: Store>(
+    at: &Cursor,
+    store: &S,
+    end: u64,
+    context: u64,
+) -> Result<(), MoveFault> {
     for word in at.bspstore..end {
         let position = positions_below(at.start, word);
         ask(
@@ -38,7 +43,12 @@ pub fn ask_spills<S: Store>(at: &Cursor, store: &S, end: u64, context: u64) -> R
 }
 
 // The words that a fill of one position reads.
-fn ask_fill<S: Store>(at: &Cursor, store: &S, position: u32, context: u64) -> Result<(), MoveFault> {
+fn ask_fill<S: Store>(
+    at: &Cursor,
+    store: &S,
+    position: u32,
+    context: u64,
+) -> Result<(), MoveFault> {
     let place = Place {
         movement: Movement::Fill,
         context,
@@ -53,7 +63,13 @@ fn ask_fill<S: Store>(at: &Cursor, store: &S, position: u32, context: u64) -> Re
 }
 
 // The words that fills of the positions from `low` to `high` − 1 read.
-pub fn ask_fills<S: Store>(at: &Cursor, store: &S, low: u32, high: u32, context: u64) -> Result<(), MoveFault> {
+pub fn ask_fills<S: Store>(
+    at: &Cursor,
+    store: &S,
+    low: u32,
+    high: u32,
+    context: u64,
+) -> Result<(), MoveFault> {
     for position in low..high {
         ask_fill(at, store, position, context)?;
     }
@@ -61,7 +77,12 @@ pub fn ask_fills<S: Store>(at: &Cursor, store: &S, low: u32, high: u32, context:
 }
 
 // The word that a lowering to `word` reads, if any.
-pub fn ask_lowering<S: Store>(at: &Cursor, store: &S, word: u64, context: u64) -> Result<(), MoveFault> {
+pub fn ask_lowering<S: Store>(
+    at: &Cursor,
+    store: &S,
+    word: u64,
+    context: u64,
+) -> Result<(), MoveFault> {
     if reads_collection(at, word) {
         ask(
             store,

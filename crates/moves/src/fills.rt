@@ -1,4 +1,9 @@
 // Fills: from the backing store to the file, upward, register by register.
+use super::at_place;
+use super::state::Cursor;
+use super::state::MoveFault;
+use super::state::Movement;
+use super::state::Place;
 use address::address_of;
 use address::collection_of;
 use address::group_of;
@@ -8,14 +13,14 @@ use register::Slot;
 use register::put_register;
 use store::Store;
 use store::StoreFault;
-use super::at_place;
-use super::state::Cursor;
-use super::state::MoveFault;
-use super::state::Movement;
-use super::state::Place;
 
 // A register whose word lies in BSPSTORE's group: its NaT bit is in RNAT.
-fn fill_near<K: Kind, S: Store>(at: &mut Cursor, slots: &mut [Slot<K>], store: &S, position: u32) -> Result<(), StoreFault> {
+fn fill_near<K: Kind, S: Store>(
+    at: &mut Cursor,
+    slots: &mut [Slot<K>],
+    store: &S,
+    position: u32,
+) -> Result<(), StoreFault> {
     let word = address_of(at.start, position);
     let image = store.read(word)?;
     at.counts.read = at.counts.read.saturating_add(1);
@@ -32,7 +37,12 @@ fn fill_near<K: Kind, S: Store>(at: &mut Cursor, slots: &mut [Slot<K>], store: &
 }
 
 // A register of another group: its NaT bit is in the group's collection, which is read too.
-fn fill_far<K: Kind, S: Store>(at: &mut Cursor, slots: &mut [Slot<K>], store: &S, position: u32) -> Result<(), StoreFault> {
+fn fill_far<K: Kind, S: Store>(
+    at: &mut Cursor,
+    slots: &mut [Slot<K>],
+    store: &S,
+    position: u32,
+) -> Result<(), StoreFault> {
     let word = address_of(at.start, position);
     let image = store.read(word)?;
     let collection = store.read(collection_of(word))?;

@@ -4,24 +4,24 @@ ghost use Prim.Native.Nat.{ℕ, _+_, _-_, _*_, _/_, _%_, _^_, _<_, _≤_};
 ghost use Rattle.std.specs.declared.result.Result.the-variants.{Ok, Err};
 
 mod asking;
-mod state;
 mod fills;
 mod lowers;
 mod spills;
+mod state;
 
 pub use asking::ask_fills;
 pub use asking::ask_lowering;
 pub use asking::ask_spills;
-pub use state::Counts;
-pub use state::Cursor;
-pub use state::MoveFault;
-pub use state::Movement;
-pub use state::Place;
 pub use fills::fill;
 pub use fills::fill_run;
 pub use lowers::lower;
 pub use spills::spill_step;
 pub use spills::spill_until;
+pub use state::Counts;
+pub use state::Cursor;
+pub use state::MoveFault;
+pub use state::Movement;
+pub use state::Place;
 use store::StoreFault;
 
 // Adds to a store's fault the move that met it.

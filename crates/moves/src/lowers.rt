@@ -1,15 +1,15 @@
 // Lowering BSPSTORE: RNAT becomes the NaT bits below it in its new group.
+use super::at_place;
+use super::state::Cursor;
+use super::state::MoveFault;
+use super::state::Movement;
+use super::state::Place;
 use address::collection_of;
 use address::group_of;
 use address::nats_below;
 use address::positions_below;
 use store::Store;
 use store::StoreFault;
-use super::at_place;
-use super::state::Cursor;
-use super::state::MoveFault;
-use super::state::Movement;
-use super::state::Place;
 
 // Does a lowering to `word` read a collection: into another group, and not to the group's first word.
 pub(crate) fn reads_collection(at: &Cursor, word: u64) -> bool {
@@ -32,7 +32,12 @@ fn lower_near(at: &mut Cursor, word: u64) {
 }
 
 // Lowers BSPSTORE to `word`.
-pub fn lower<S: Store>(at: &mut Cursor, store: &S, word: u64, context: u64) -> Result<(), MoveFault> {
+pub fn lower<S: Store>(
+    at: &mut Cursor,
+    store: &S,
+    word: u64,
+    context: u64,
+) -> Result<(), MoveFault> {
     if reads_collection(at, word) {
         let place = Place {
             movement: Movement::Lowering,

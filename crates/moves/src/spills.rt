@@ -4,6 +4,11 @@ ghost use mathlib.Core.Bool.{cond};
 ghost use Rattle.store.specs.Rules.{isOpen, writeOf, written};
 ghost use Rattle.register.specs.Slots.{registerAt};
 ghost use Rattle.moves.specs.Steps.{pastCollection, pastRegister};
+use super::at_place;
+use super::state::Cursor;
+use super::state::MoveFault;
+use super::state::Movement;
+use super::state::Place;
 use address::is_collection;
 use address::positions_below;
 use address::with_nat;
@@ -12,11 +17,6 @@ use register::Slot;
 use register::register_at;
 use store::Store;
 use store::StoreFault;
-use super::at_place;
-use super::state::Cursor;
-use super::state::MoveFault;
-use super::state::Movement;
-use super::state::Place;
 
 // Writes RNAT to the collection at BSPSTORE, and clears it.
 fn spill_collection<S: Store>(at: &mut Cursor, store: &mut S) -> Result<(), StoreFault>
@@ -32,7 +32,11 @@ fn spill_collection<S: Store>(at: &mut Cursor, store: &mut S) -> Result<(), Stor
 }
 
 // Writes the image of the next position to BSPSTORE, and puts its NaT bit into RNAT.
-fn spill_register<K: Kind, S: Store>(at: &mut Cursor, register: Slot<K>, store: &mut S) -> Result<(), StoreFault>
+fn spill_register<K: Kind, S: Store>(
+    at: &mut Cursor,
+    register: Slot<K>,
+    store: &mut S,
+) -> Result<(), StoreFault>
     ensures answer { λ r. ⌜ r ≡ writeOf (S·Store .meaning (now (store .entry))) (now (at .entry) .bspstore) ⌝ }
     ensures words { λ _. ⌜ S·Store .meaning (now (store .exit)) ≡ written (S·Store .meaning (now (store .entry))) (now (at .entry) .bspstore) (K·Kind .imageOf (register .content)) ⌝ }
     ensures cursor { λ _. ⌜ now (at .exit) ≡ cond (isOpen (S·Store .meaning (now (store .entry))) (now (at .entry) .bspstore)) (pastRegister (register .nat) (now (at .entry))) (now (at .entry)) ⌝ }
@@ -60,7 +64,10 @@ pub fn spill_step<K: Kind, S: Store>(
     if is_collection(at.bspstore) {
         at_place(spill_collection(at, store), place)
     } else {
-        at_place(spill_register(at, register_at(slots, position), store), place)
+        at_place(
+            spill_register(at, register_at(slots, position), store),
+            place,
+        )
     }
 }
 

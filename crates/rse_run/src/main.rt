@@ -19,8 +19,8 @@ const LONGEST_INPUT: usize = 65536;
 fn read_input(rt: &LibcRuntime) -> io::Result<(Vec<u8>, bool)> {
     let mut stdin = rt.stdin();
     let mut input = Vec::new(rt.alloc());
-    let mut block = [0u8; 4096];
     for _ in 0..u64::MAX {
+        let mut block = [0u8; 4096];
         let n = stdin.read(&mut block)?;
         if n == 0 || input.len() > LONGEST_INPUT {
             break;

@@ -1,8 +1,8 @@
 // Printing: `ok` and the answers, or `no` and the number of the refusal (for a shut word also the word).
+use super::numbers::push_number;
 use context::Refusal;
 use engine::Answer;
 use std::alloc::AllocError;
-use super::numbers::push_number;
 
 // A space and a number.
 fn push_value(out: &mut Vec<u8>, n: u64) -> Result<(), AllocError> {

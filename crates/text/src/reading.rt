@@ -1,6 +1,6 @@
 // Reading a line: a letter, then for each operand one space and a decimal number.
-use engine::Instruction;
 use super::numbers::number;
+use engine::Instruction;
 
 // One operand, and what follows it.
 fn operand(text: &[u8]) -> Option<(u64, &[u8])> {

@@ -1,6 +1,11 @@
 // Sessions: bytes in, bytes out.
 ghost use Prim.Native.Nat.{ℕ, _+_, _≤_, _<_};
 ghost use lib.ListN.{length};
+use super::lines::first_line;
+use super::printing::push_answer;
+use super::printing::push_end;
+use super::printing::push_refusal;
+use super::reading::read_line;
 use context::Refusal;
 use engine::Answer;
 use engine::Engine;
@@ -9,11 +14,6 @@ use register::Slot;
 use std::alloc::AllocError;
 use std::alloc::Global;
 use store::Store;
-use super::lines::first_line;
-use super::printing::push_answer;
-use super::printing::push_end;
-use super::printing::push_refusal;
-use super::reading::read_line;
 
 // The longest answer is five numbers; with its word, its spaces and its end byte it has fewer bytes.
 const LONGEST_ANSWER: usize = 112;
@@ -84,7 +84,12 @@ fn lines_at_most(input: &[u8]) -> usize {
 }
 
 // A new engine, and memory for all answers.
-fn prepared(heap: Global, slots: u64, words: u64, lines: usize) -> Result<(Engine, Vec<u8>), SessionError> {
+fn prepared(
+    heap: Global,
+    slots: u64,
+    words: u64,
+    lines: usize,
+) -> Result<(Engine, Vec<u8>), SessionError> {
     let engine = Engine::new(slots, words)?;
     let room = lines.saturating_add(1).saturating_mul(LONGEST_ANSWER);
     let out = Vec::with_capacity(heap, room)?;
@@ -106,8 +111,18 @@ fn print_outcome(out: &mut Vec<u8>, outcome: Result<Answer, RunFault>) -> Result
 }
 
 // Runs the lines of the input on a new engine, and gives what is printed: an answer for each line, and the end line.
-pub fn run_session<K: Kind, S: Store>(heap: Global, slots: &mut [Slot<K>], store: &mut S, input: &[u8]) -> Result<Vec<u8>, SessionError> {
-    let (mut engine, mut out) = prepared(heap, slots.len() as u64, store.len(), lines_at_most(input))?;
+pub fn run_session<K: Kind, S: Store>(
+    heap: Global,
+    slots: &mut [Slot<K>],
+    store: &mut S,
+    input: &[u8],
+) -> Result<Vec<u8>, SessionError> {
+    let (mut engine, mut out) = prepared(
+        heap,
+        slots.len() as u64,
+        store.len(),
+        lines_at_most(input),
+    )?;
     let mut granted: u64 = 0;
     let mut refused: u64 = 0;
     let mut rest = input;
