@@ -1,13 +1,13 @@
 -- Renaming is a bijection of a frame, and a rotation moves what a register shows to the next one.
-use mathlib.Core.Path.{_≡_, _∙_, ap, sym, subst}
+use mathlib.Core.Path.{_≡_, _∙_, ap, sym}
 use mathlib.Core.Logic.{_⊎_, inl, inr}
-use mathlib.Core.Bool.{Bool, true, false, cond}
+use mathlib.Core.Bool.{cond}
 use Prim.Native.Nat.{ℕ, _+_, _-_, _*_, _%_, _<_, _≤_}
 use native.Mathlib.Nat.{mod-eq-of-lt, mod-eq-sub-mod}
 use native.Mathlib.Omega.{arith}
 use lib.Dec.{ltb, eqb}
 use Rattle.std.proofs.shelf.Tests.{cases-lt, cases-eq, lt-ltb, le-ltb, eq-eqb, ne-eqb, cond-true, cond-false}
-use Rattle.frame.specs.Markers.{offsetOf, indexOf, turnedOnce, Renames, Turns}
+use Rattle.frame.specs.Markers.{turnedOnce, Renames, Turns}
 
 -- i moved up by k within a round of n, where i is in the round
 abbrev along : ℕ → ℕ → ℕ → ℕ

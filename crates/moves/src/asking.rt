@@ -1,5 +1,6 @@
 // Asking: is every word that a move needs open? The lowest shut one is told, before anything moves. Asking counts nothing.
 use super::at_place;
+use super::fills::is_near;
 use super::lowers::reads_collection;
 use super::state::Cursor;
 use super::state::MoveFault;
@@ -7,7 +8,6 @@ use super::state::Movement;
 use super::state::Place;
 use address::address_of;
 use address::collection_of;
-use address::group_of;
 use address::positions_below;
 use store::Store;
 
@@ -56,7 +56,7 @@ fn ask_fill<S: Store>(
     };
     let word = address_of(at.start, position);
     ask(store, word, place)?;
-    if group_of(word) != group_of(at.bspstore) {
+    if !is_near(at, position) {
         ask(store, collection_of(word), place)?;
     }
     Ok(())

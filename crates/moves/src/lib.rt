@@ -1,7 +1,6 @@
 // Moves of registers between the file and the backing store (docs/RULES.md, "Moves"), for every store and every kind.
 ghost use mathlib.Core.Path.{_≡_};
-ghost use Prim.Native.Nat.{ℕ, _+_, _-_, _*_, _/_, _%_, _^_, _<_, _≤_};
-ghost use Rattle.std.specs.declared.result.Result.the-variants.{Ok, Err};
+ghost use Rattle.moves.specs.Steps.{placed};
 
 mod asking;
 mod fills;
@@ -26,7 +25,7 @@ use store::StoreFault;
 
 // Adds to a store's fault the move that met it.
 pub fn at_place<T>(result: Result<T, StoreFault>, place: Place) -> Result<T, MoveFault>
-    ensures { λ r. ⌜ elim result [ Ok v ↦ r ≡ Ok v | Err e ↦ r ≡ Err (record { fault = e; place = place }) ] ⌝ }
+    ensures { λ r. ⌜ r ≡ placed result place ⌝ }
 {
     match result {
         Ok(v) => Ok(v),

@@ -1,9 +1,10 @@
 // Spills: from the file to the backing store, upward, word by word.
 ghost use mathlib.Core.Path.{_≡_};
+ghost use Prim.Native.Nat.{_-_};
 ghost use mathlib.Core.Bool.{cond};
 ghost use Rattle.store.specs.Rules.{isOpen, writeOf, written};
 ghost use Rattle.register.specs.Slots.{registerAt};
-ghost use Rattle.moves.specs.Steps.{pastCollection, pastRegister};
+ghost use Rattle.moves.specs.Spills.{pastCollection, pastRegister, spillAnswer, spillValue, spillPast, spillRun};
 use super::at_place;
 use super::state::Cursor;
 use super::state::MoveFault;
@@ -54,7 +55,11 @@ pub fn spill_step<K: Kind, S: Store>(
     slots: &[Slot<K>],
     store: &mut S,
     context: u64,
-) -> Result<(), MoveFault> {
+) -> Result<(), MoveFault>
+    ensures answer { λ r. ⌜ r ≡ spillAnswer (S·Store .meaning (now (store .entry))) context (now (at .entry)) ⌝ }
+    ensures words { λ _. ⌜ S·Store .meaning (now (store .exit)) ≡ written (S·Store .meaning (now (store .entry))) (now (at .entry) .bspstore) (spillValue zeroContent (K·Kind .imageOf) (now (slots .entry)) (now (at .entry))) ⌝ }
+    ensures cursor { λ _. ⌜ now (at .exit) ≡ cond (isOpen (S·Store .meaning (now (store .entry))) (now (at .entry) .bspstore)) (spillPast zeroContent (now (slots .entry)) (now (at .entry))) (now (at .entry)) ⌝ }
+{
     let position = positions_below(at.start, at.bspstore);
     let place = Place {
         movement: Movement::Spill,
@@ -64,10 +69,7 @@ pub fn spill_step<K: Kind, S: Store>(
     if is_collection(at.bspstore) {
         at_place(spill_collection(at, store), place)
     } else {
-        at_place(
-            spill_register(at, register_at(slots, position), store),
-            place,
-        )
+        at_place(spill_register(at, register_at(slots, position), store), place)
     }
 }
 
@@ -78,8 +80,12 @@ pub fn spill_until<K: Kind, S: Store>(
     store: &mut S,
     end: u64,
     context: u64,
-) -> Result<(), MoveFault> {
-    for _ in at.bspstore..end {
+) -> Result<(), MoveFault>
+    ensures answer { λ r. ⌜ r ≡ spillRun zeroContent (K·Kind .imageOf) (now (slots .entry)) context (end - now (at .entry) .bspstore) (now (at .entry)) (S·Store .meaning (now (store .entry))) .answer ⌝ }
+    ensures words { λ _. ⌜ S·Store .meaning (now (store .exit)) ≡ spillRun zeroContent (K·Kind .imageOf) (now (slots .entry)) context (end - now (at .entry) .bspstore) (now (at .entry)) (S·Store .meaning (now (store .entry))) .meaning ⌝ }
+    ensures cursor { λ _. ⌜ now (at .exit) ≡ spillRun zeroContent (K·Kind .imageOf) (now (slots .entry)) context (end - now (at .entry) .bspstore) (now (at .entry)) (S·Store .meaning (now (store .entry))) .cursor ⌝ }
+{
+    for _word in at.bspstore..end {
         spill_step(at, slots, store, context)?;
     }
     Ok(())

@@ -1,12 +1,12 @@
 -- A lane's bits, read and written again, are the same bits, or the one NaN's.
 use mathlib.Core.Path.{_≡_, refl, _∙_, ap, sym, subst}
 use mathlib.Core.Logic.{inl, inr}
-use mathlib.Core.Bool.{Bool, true, false, not, cond}
+use mathlib.Core.Bool.{Bool, true, not}
 use Prim.Native.Nat.{ℕ, _%_, _^_, _<_}
 use lib.Dec.{T, ltb}
-use lib.Ieee.{Float, nan, inf, fin, binary32, isNan, nanBits, ofBits, toBits}
+use lib.Ieee.{Float, nan, inf, fin, binary32, isNan, ofBits, toBits}
 use lib.Ieee.Bits.{toBits-ofBits, nanBits-is, nanBits-above}
-use Rattle.std.proofs.shelf.Tests.{cases-bool, cond-true, cond-false, true≢false, false≢true}
+use Rattle.std.proofs.shelf.Tests.{cases-bool, cond-true, cond-false, false≢true}
 use Rattle.register.specs.Contents.{laneBits}
 
 only-nan : (v : Float) → isNan v ≡ true → v ≡ nan

@@ -1,14 +1,14 @@
 -- What putting and clearing show, position by position.
 use mathlib.Core.Path.{_≡_, refl, _∙_, ap, sym}
-use mathlib.Core.Logic.{_⊎_, inl, inr, _≢_}
+use mathlib.Core.Logic.{inl, inr, _≢_}
 use mathlib.Core.List.{List}
 use Prim.Native.Nat.{ℕ, zero, suc, _+_, _*_, _-_, _/_, _%_, _≤_, _<_}
 use native.Mathlib.Nat.{div-add-mod', mul-le-mul-right, mod-lt, add-mul, eq-zero-or-pos}
 use native.Mathlib.Omega.{arith}
-use lib.ListN.{length, getD, set, length-set}
+use lib.ListN.{length, length-set}
 use lib.Seq.{getD-set-same, getD-set-other}
 use Rattle.std.proofs.shelf.Tests.{cases-order}
-use Rattle.register.specs.Slots.{registerAt, registerPut, registersCleared, clearedSlot, Near, PutShows, ClearShows}
+use Rattle.register.specs.Slots.{registerPut, registersCleared, clearedSlot, Near, PutShows, ClearShows}
 use Rattle.register.specs.declared.Slot.{Slot}
 
 below : (q r n : ℕ) → q < r → q * n + n ≤ r * n

@@ -6,7 +6,7 @@ use native.Mathlib.Bridge.{le-prop}
 use native.Mathlib.Omega.{arith}
 use mathlib.Core.Bool.{cond}
 use lib.Dec.{T, T-prop, ltb}
-use lib.Ieee.{Float, fits, binary32, add, ofBits, toBits}
+use lib.Ieee.{fits, binary32, add, ofBits, toBits}
 use lib.Ieee.Bits.{ofBits-fits}
 use lib.Ieee.Fits.{add-fits}
 use Rattle.register.specs.declared.word.Word.{Word}

@@ -1,7 +1,7 @@
 -- A ring of slots, seen by position: position p uses slot p mod N.
 use mathlib.Core.Path.{_≡_}
 use mathlib.Core.List.{List}
-use mathlib.Core.Bool.{Bool, false}
+use mathlib.Core.Bool.{false}
 use Prim.Native.Nat.{ℕ, zero, suc, _+_, _%_, _≤_, _<_}
 use lib.ListN.{length, getD, set}
 use Rattle.register.specs.declared.Slot.{Slot}

@@ -1,7 +1,6 @@
 // A ring of N slots, lent as a slice: position p uses slot p mod N. An empty slice holds nothing.
 ghost use mathlib.Core.Path.{_≡_};
-ghost use Prim.Native.Nat.{ℕ, _+_, _-_, _<_, _≤_};
-ghost use lib.ListN.{length};
+ghost use Prim.Native.Nat.{_-_};
 ghost use Rattle.register.specs.Slots.{registerAt, registerPut, registersCleared, clearedSlot, PutShows, ClearShows};
 use super::Kind;
 use super::Slot;

@@ -2,8 +2,8 @@ use mathlib.Core.Path.{_≡_, _∙_, ap, sym}
 use mathlib.Core.Logic.{inl, inr}
 use Rattle.std.proofs.shelf.Tests.{cases-lt}
 use native.Mathlib.Omega.{arith}
-use Prim.Native.Nat.{_≤_, _<_, _-_}
-use Rattle.register.specs.Slots.{registersCleared, registerPut}
+use Prim.Native.Nat.{_-_}
+use Rattle.register.specs.Slots.{registersCleared}
 use Rattle.register.proofs.Rings.{cleared-more}
 use Rattle.register.proofs.ring.clear.Needs as need
 

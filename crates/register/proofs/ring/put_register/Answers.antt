@@ -1,5 +1,3 @@
-use mathlib.Core.Path.{sym}
-use Rattle.register.specs.Slots.{PutShows}
 use Rattle.register.proofs.Rings.{put-shows}
 use Rattle.register.proofs.ring.put_register.Needs as need
 

@@ -1,0 +1,2 @@
+pub mod FarFills
+pub mod Runs
