@@ -11,7 +11,10 @@ use Rattle.register.specs.declared.Slot.{Slot}
 use Rattle.store.specs.Meaning.{Meaning}
 use Rattle.store.specs.Rules.{isOpen, written}
 use Rattle.moves.specs.declared.state.Cursor.{Cursor}
-use Rattle.moves.specs.Steps.{MoveResult, readMore}
+use Rattle.moves.specs.Steps.{MoveResult, readMore, askOf}
+use Rattle.moves.specs.declared.state.Movement.the-variants.{Spill}
+use Rattle.moves.specs.Asks.{spillsAsked, fillsAsked}
+use Rattle.address.specs.Addresses.{positionsBelow}
 use Rattle.moves.specs.Spills.{spillAnswer, spillValue, spillPast, spillRun, SpillEnd}
 use Rattle.moves.specs.Fills.{fillOpen, fillAnswer, fillReads, filled, fillRun, FillEnd}
 
@@ -31,23 +34,23 @@ unwritten m w v o = rw o refl
 
 module _ {C : Type 0} (nought : C) (image : C → ℕ) (slots : List (Slot C)) (context : ℕ) where
   pub spill-more : (end word : ℕ) (c c' : Cursor) (m m' : Meaning) → word < end → isOpen m (c .bspstore) ≡ true
-    → c' ≡ cond (isOpen m (c .bspstore)) (spillPast nought slots c) c → m' ≡ written m (c .bspstore) (spillValue nought image slots c)
-    → spillRun nought image slots context (end - (word + 1)) c' m' ≡ spillRun nought image slots context (end - word) c m
+      → c' ≡ cond (isOpen m (c .bspstore)) (spillPast nought slots c) c → m' ≡ written m (c .bspstore) (spillValue nought image slots c)
+      → spillRun nought image slots context (end - (word + 1)) c' m' ≡ spillRun nought image slots context (end - word) c m
   spill-more end word c c' m m' lt o ec em =
       let e : end - word ≡ suc (end - (word + 1)) = omega arith in
       let ec' : c' ≡ spillPast nought slots c = ec ∙ ap (λ b. cond b (spillPast nought slots c) c) o in
       rw (e, ec', em, o) refl
 
   pub spill-stop : (end word : ℕ) (c : Cursor) (m : Meaning) → word < end → isOpen m (c .bspstore) ≡ false
-    → spillRun nought image slots context (end - word) c m ≡ record { cursor = c; meaning = m; answer = spillAnswer m context c }
+      → spillRun nought image slots context (end - word) c m ≡ record { cursor = c; meaning = m; answer = spillAnswer m context c }
   spill-stop end word c m lt o =
       let e : end - word ≡ suc (end - (word + 1)) = omega arith in
       rw (e, o) refl
 
 module _ {C : Type 0} (content : ℕ → C) (m : Meaning) (context : ℕ) where
   pub fill-more : (high p : ℕ) (c c' : Cursor) (slots slots' : List (Slot C)) → p < high → fillOpen c m p ≡ true
-    → c' ≡ cond (fillOpen c m p) (readMore (fillReads c p) c) c → slots' ≡ cond (fillOpen c m p) (registerPut slots p (filled content c m p)) slots
-    → fillRun content m context (high - (p + 1)) (p + 1) c' slots' ≡ fillRun content m context (high - p) p c slots
+      → c' ≡ cond (fillOpen c m p) (readMore (fillReads c p) c) c → slots' ≡ cond (fillOpen c m p) (registerPut slots p (filled content c m p)) slots
+      → fillRun content m context (high - (p + 1)) (p + 1) c' slots' ≡ fillRun content m context (high - p) p c slots
   fill-more high p c c' slots slots' lt o ec es =
       let e : high - p ≡ suc (high - (p + 1)) = omega arith in
       let ec' : c' ≡ readMore (fillReads c p) c = ec ∙ ap (λ b. cond b (readMore (fillReads c p) c) c) o in
@@ -55,7 +58,32 @@ module _ {C : Type 0} (content : ℕ → C) (m : Meaning) (context : ℕ) where
       rw (e, ec', es', o) refl
 
   pub fill-stop : (high p : ℕ) (c : Cursor) (slots : List (Slot C)) → p < high → fillOpen c m p ≡ false
-    → fillRun content m context (high - p) p c slots ≡ record { cursor = c; file = slots; answer = fillAnswer m context c p }
+      → fillRun content m context (high - p) p c slots ≡ record { cursor = c; file = slots; answer = fillAnswer m context c p }
   fill-stop high p c slots lt o =
+      let e : high - p ≡ suc (high - (p + 1)) = omega arith in
+      rw (e, o) refl
+
+module _ (m : Meaning) (context : ℕ) where
+  pub ask-more : (start end word : ℕ) → word < end → isOpen m word ≡ true
+      → spillsAsked m context start (end - (word + 1)) (word + 1) ≡ spillsAsked m context start (end - word) word
+  ask-more start end word lt o =
+      let e : end - word ≡ suc (end - (word + 1)) = omega arith in
+      rw (e, o) refl
+
+  pub ask-stop : (start end word : ℕ) → word < end → isOpen m word ≡ false
+      → spillsAsked m context start (end - word) word ≡ askOf m word Spill context (positionsBelow start word)
+  ask-stop start end word lt o =
+      let e : end - word ≡ suc (end - (word + 1)) = omega arith in
+      rw (e, o) refl
+
+  pub asks-more : (c : Cursor) (high p : ℕ) → p < high → fillOpen c m p ≡ true
+      → fillsAsked m context c (high - (p + 1)) (p + 1) ≡ fillsAsked m context c (high - p) p
+  asks-more c high p lt o =
+      let e : high - p ≡ suc (high - (p + 1)) = omega arith in
+      rw (e, o) refl
+
+  pub asks-stop : (c : Cursor) (high p : ℕ) → p < high → fillOpen c m p ≡ false
+      → fillsAsked m context c (high - p) p ≡ fillAnswer m context c p
+  asks-stop c high p lt o =
       let e : high - p ≡ suc (high - (p + 1)) = omega arith in
       rw (e, o) refl

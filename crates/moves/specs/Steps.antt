@@ -39,6 +39,9 @@ abbrev pub faultAt : Meaning → ℕ → Movement → ℕ → ℕ → MoveFault
 faultAt m w movement context position =
     record { fault = refusalOf m w; place = record { movement = movement; context = context; position = position } }
 
--- what asking about word w answers
+-- what asking about word w answers a move at a place
+abbrev pub askedAt : Meaning → ℕ → Place → MoveResult
+askedAt m w place = cond (isOpen m w) (Ok tt) (Err (record { fault = refusalOf m w; place = place }))
+
 abbrev pub askOf : Meaning → ℕ → Movement → ℕ → ℕ → MoveResult
-askOf m w movement context position = cond (isOpen m w) (Ok tt) (Err (faultAt m w movement context position))
+askOf m w movement context position = askedAt m w (record { movement = movement; context = context; position = position })

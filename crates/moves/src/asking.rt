@@ -1,4 +1,10 @@
 // Asking: is every word that a move needs open? The lowest shut one is told, before anything moves. Asking counts nothing.
+ghost use mathlib.Core.Path.{_≡_};
+ghost use Prim.Native.Nat.{_-_};
+ghost use Rattle.moves.specs.Steps.{askedAt};
+ghost use Rattle.moves.specs.Fills.{fillAnswer};
+ghost use Rattle.moves.specs.Lowers.{lowerAnswer};
+ghost use Rattle.moves.specs.Asks.{spillsAsked, fillsAsked};
 use super::at_place;
 use super::fills::is_near;
 use super::lowers::reads_collection;
@@ -12,7 +18,9 @@ use address::positions_below;
 use store::Store;
 
 // One word: the store's own fault where it is shut or missing.
-fn ask<S: Store>(store: &S, word: u64, place: Place) -> Result<(), MoveFault> {
+fn ask<S: Store>(store: &S, word: u64, place: Place) -> Result<(), MoveFault>
+    ensures { λ r. ⌜ r ≡ askedAt (S·Store .meaning (now (store .entry))) word place ⌝ }
+{
     if store.is_open(word) {
         return Ok(());
     }
@@ -21,12 +29,9 @@ fn ask<S: Store>(store: &S, word: u64, place: Place) -> Result<(), MoveFault> {
 }
 
 // The words that spills until `end` write.
-pub fn ask_spills<S: Store>(
-    at: &Cursor,
-    store: &S,
-    end: u64,
-    context: u64,
-) -> Result<(), MoveFault> {
+pub fn ask_spills<S: Store>(at: &Cursor, store: &S, end: u64, context: u64) -> Result<(), MoveFault>
+    ensures { λ r. ⌜ r ≡ spillsAsked (S·Store .meaning (now (store .entry))) context (now (at .entry) .start) (end - now (at .entry) .bspstore) (now (at .entry) .bspstore) ⌝ }
+{
     for word in at.bspstore..end {
         let position = positions_below(at.start, word);
         ask(
@@ -43,12 +48,9 @@ pub fn ask_spills<S: Store>(
 }
 
 // The words that a fill of one position reads.
-fn ask_fill<S: Store>(
-    at: &Cursor,
-    store: &S,
-    position: u32,
-    context: u64,
-) -> Result<(), MoveFault> {
+fn ask_fill<S: Store>(at: &Cursor, store: &S, position: u32, context: u64) -> Result<(), MoveFault>
+    ensures { λ r. ⌜ r ≡ fillAnswer (S·Store .meaning (now (store .entry))) context (now (at .entry)) position ⌝ }
+{
     let place = Place {
         movement: Movement::Fill,
         context,
@@ -56,10 +58,10 @@ fn ask_fill<S: Store>(
     };
     let word = address_of(at.start, position);
     ask(store, word, place)?;
-    if !is_near(at, position) {
-        ask(store, collection_of(word), place)?;
+    if is_near(at, position) {
+        return Ok(());
     }
-    Ok(())
+    ask(store, collection_of(word), place)
 }
 
 // The words that fills of the positions from `low` to `high` − 1 read.
@@ -69,7 +71,9 @@ pub fn ask_fills<S: Store>(
     low: u32,
     high: u32,
     context: u64,
-) -> Result<(), MoveFault> {
+) -> Result<(), MoveFault>
+    ensures { λ r. ⌜ r ≡ fillsAsked (S·Store .meaning (now (store .entry))) context (now (at .entry)) (high - low) low ⌝ }
+{
     for position in low..high {
         ask_fill(at, store, position, context)?;
     }
@@ -82,17 +86,19 @@ pub fn ask_lowering<S: Store>(
     store: &S,
     word: u64,
     context: u64,
-) -> Result<(), MoveFault> {
-    if reads_collection(at, word) {
-        ask(
-            store,
-            collection_of(word),
-            Place {
-                movement: Movement::Lowering,
-                context,
-                position: positions_below(at.start, word),
-            },
-        )?;
+) -> Result<(), MoveFault>
+    ensures { λ r. ⌜ r ≡ lowerAnswer (S·Store .meaning (now (store .entry))) context (now (at .entry)) word ⌝ }
+{
+    if !reads_collection(at, word) {
+        return Ok(());
     }
-    Ok(())
+    ask(
+        store,
+        collection_of(word),
+        Place {
+            movement: Movement::Lowering,
+            context,
+            position: positions_below(at.start, word),
+        },
+    )
 }

@@ -47,12 +47,7 @@ fn lower_near(at: &mut Cursor, word: u64)
 }
 
 // Lowers BSPSTORE to `word`.
-pub fn lower<S: Store>(
-    at: &mut Cursor,
-    store: &S,
-    word: u64,
-    context: u64,
-) -> Result<(), MoveFault>
+pub fn lower<S: Store>(at: &mut Cursor, store: &S, word: u64, context: u64) -> Result<(), MoveFault>
     ensures answer { λ r. ⌜ r ≡ lowerAnswer (S·Store .meaning (now (store .entry))) context (now (at .entry)) word ⌝ }
     ensures cursor { λ _. ⌜ now (at .exit) ≡ cond (lowerOpen (now (at .entry)) (S·Store .meaning (now (store .entry))) word) (lowered (S·Store .meaning (now (store .entry))) (now (at .entry)) word) (now (at .entry)) ⌝ }
 {

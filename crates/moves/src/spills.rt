@@ -69,7 +69,10 @@ pub fn spill_step<K: Kind, S: Store>(
     if is_collection(at.bspstore) {
         at_place(spill_collection(at, store), place)
     } else {
-        at_place(spill_register(at, register_at(slots, position), store), place)
+        at_place(
+            spill_register(at, register_at(slots, position), store),
+            place,
+        )
     }
 }
 

@@ -23,6 +23,10 @@ pageWords memory frames = map (λ w. getD memory (placeOf frames w) 0) (counting
 abbrev pub pagedOf : List ℕ → List ℕ → List Bool → Meaning
 pagedOf memory frames doors = record { words = pageWords memory frames; flags = doors; moving = true }
 
+-- what frames that are refused make
+abbrev pub noWords : Meaning
+noWords = record { words = []; flags = []; moving = true }
+
 -- each frame is below n
 abbrev pub Below : List ℕ → ℕ → Type 0
 Below frames n = (i : ℕ) → i < length frames → getD frames i 0 < n

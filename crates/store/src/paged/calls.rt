@@ -1,13 +1,11 @@
 // Making a paged store, and its calls.
 ghost use mathlib.Core.Path.{_≡_};
-ghost use mathlib.Core.List.{[]};
-ghost use mathlib.Core.Bool.{true};
 ghost use Prim.Native.Nat.{_*_, _<_, _≤_};
-ghost use lib.ListN.{length, set, replicate};
+ghost use lib.ListN.{length, set};
 ghost use denote.Ref.{now, name};
 ghost use Rattle.std.specs.Of.Vec.{vec-len, vec-items};
 ghost use Rattle.std.specs.Vec.{made};
-ghost use Rattle.store.specs.Frames.{Fit, pagedOf};
+ghost use Rattle.store.specs.Frames.{Fit, noWords};
 ghost use Rattle.store.specs.Paged.{meaningOf, wordsOf, foundOf, landed, Lies, Laid};
 ghost use Rattle.store.specs.Paging.{words-bounded, words-flagged};
 ghost use Rattle.store.specs.Rules.{writeOf, written, doorOf, doorSet};
@@ -28,7 +26,7 @@ impl<'a> PagedStore<'a> {
     ) -> Result<PagedStore<'a>, AllocError>
         ensures lent { λ r. ⌜ made r (λ s. name (s .memory) ≡ name (memory .entry)) ⌝ }
         ensures laid { λ r. ⌜ (Fit (length (now (memory .entry))) (now (frames .entry)) → made r (λ s. Laid (now (memory .entry)) (now (frames .entry)) s)) ⌝ }
-        ensures refused { λ r. ⌜ ((Fit (length (now (memory .entry))) (now (frames .entry)) → ⊥) → made r (λ s. meaningOf s ≡ pagedOf [] [] [])) ⌝ }
+        ensures refused { λ r. ⌜ ((Fit (length (now (memory .entry))) (now (frames .entry)) → ⊥) → made r (λ s. meaningOf s ≡ noWords)) ⌝ }
     {
         match check_frames(memory.len() as u64, frames) {
             Ok(()) => {
