@@ -1,8 +1,10 @@
 // Instructions on the frame: markers, calls, covers, and the registers of the frame.
 ghost use mathlib.Core.Path.{_≡_};
 ghost use Prim.Native.Nat.{ℕ, _+_, _-_, _*_, _/_, _%_, _^_, _<_, _≤_};
-ghost use Rattle.frame.specs.Markers.{sofOf, solOf, sorOf, rotationOf, lawfulWord};
-ghost use Rattle.std.specs.declared.result.Result.the-variants.{Ok, Err};
+ghost use Rattle.frame.specs.Fields.{PartsOfWord};
+ghost use Rattle.context.specs.Records.{topOf};
+ghost use Rattle.context.specs.Frames.{called, covered, rotatedFrame, resetFrame, previousSet, previousAnswer, positionOf};
+ghost use Rattle.context.specs.Frames.{writeFile, copyFile, addFile, readAnswer, oneRegister, twoRegisters, threeRegisters};
 use super::marker_of;
 use super::refusals::Refusal;
 use super::sound::Context;
@@ -15,34 +17,38 @@ use register::register_at;
 impl Context {
     // The marker of the frame.
     pub fn marker(&self) -> FrameMarker
-        ensures { λ r. ⌜ (r .sof ≡ sofOf (now (self .entry) .stack .marker)) × (r .sol ≡ solOf (now (self .entry) .stack .marker)) × (r .sor ≡ sorOf (now (self .entry) .stack .marker)) × (r .rotation ≡ rotationOf (now (self .entry) .stack .marker)) ⌝ }
+        ensures { λ r. ⌜ PartsOfWord r (now (self .entry) .stack .marker) ⌝ }
     {
         marker_of(self.stack.marker)
     }
 
     // The previous marker, of the frame that a return goes back to.
     pub fn previous_marker(&self) -> FrameMarker
-        ensures { λ r. ⌜ (r .sof ≡ sofOf (now (self .entry) .stack .previous)) × (r .sol ≡ solOf (now (self .entry) .stack .previous)) × (r .sor ≡ sorOf (now (self .entry) .stack .previous)) × (r .rotation ≡ rotationOf (now (self .entry) .stack .previous)) ⌝ }
+        ensures { λ r. ⌜ PartsOfWord r (now (self .entry) .stack .previous) ⌝ }
     {
         marker_of(self.stack.previous)
     }
 
     // The marker that the last cover saved.
     pub fn saved_marker(&self) -> FrameMarker
-        ensures { λ r. ⌜ (r .sof ≡ sofOf (now (self .entry) .stack .saved)) × (r .sol ≡ solOf (now (self .entry) .stack .saved)) × (r .sor ≡ sorOf (now (self .entry) .stack .saved)) × (r .rotation ≡ rotationOf (now (self .entry) .stack .saved)) ⌝ }
+        ensures { λ r. ⌜ PartsOfWord r (now (self .entry) .stack .saved) ⌝ }
     {
         marker_of(self.stack.saved)
     }
 
     // The first position above the frame.
     pub fn top(&self) -> u32
-        ensures { λ r. ⌜ r ≡ now (self .entry) .stack .base + sofOf (now (self .entry) .stack .marker) ⌝ }
+        ensures { λ r. ⌜ r ≡ topOf (now (self .entry) .stack) ⌝ }
     {
         self.stack.base + self.marker().sof()
     }
 
     // Call: the locals go below base, and the rest of the frame is the new frame.
-    pub fn call(&mut self) {
+    pub fn call(&mut self)
+        ensures stack { λ _. ⌜ now (self .exit) .stack ≡ called (now (self .entry) .stack) ⌝ }
+        ensures counts { λ _. ⌜ now (self .exit) .counts ≡ now (self .entry) .counts ⌝ }
+        ensures number { λ _. ⌜ now (self .exit) .number ≡ now (self .entry) .number ⌝ }
+    {
         let marker = self.marker();
         let outs = marker.sof() - marker.sol();
         self.stack.previous = self.stack.marker;
@@ -51,7 +57,11 @@ impl Context {
     }
 
     // Cover: the whole frame goes below base, its marker is saved, and the frame is empty.
-    pub fn cover(&mut self) {
+    pub fn cover(&mut self)
+        ensures stack { λ _. ⌜ now (self .exit) .stack ≡ covered (now (self .entry) .stack) ⌝ }
+        ensures counts { λ _. ⌜ now (self .exit) .counts ≡ now (self .entry) .counts ⌝ }
+        ensures number { λ _. ⌜ now (self .exit) .number ≡ now (self .entry) .number ⌝ }
+    {
         let top = self.top();
         self.stack.saved = self.stack.marker;
         self.stack.base = top;
@@ -59,21 +69,34 @@ impl Context {
     }
 
     // Rotates the rotating registers by one.
-    pub fn rotate(&mut self) {
+    pub fn rotate(&mut self)
+        ensures stack { λ _. ⌜ now (self .exit) .stack ≡ rotatedFrame (now (self .entry) .stack) ⌝ }
+        ensures counts { λ _. ⌜ now (self .exit) .counts ≡ now (self .entry) .counts ⌝ }
+        ensures number { λ _. ⌜ now (self .exit) .number ≡ now (self .entry) .number ⌝ }
+    {
         let mut marker = self.marker();
         marker.rotate();
         self.stack.marker = marker.word();
     }
 
     // Sets the rotation to zero.
-    pub fn reset_rotation(&mut self) {
+    pub fn reset_rotation(&mut self)
+        ensures stack { λ _. ⌜ now (self .exit) .stack ≡ resetFrame (now (self .entry) .stack) ⌝ }
+        ensures counts { λ _. ⌜ now (self .exit) .counts ≡ now (self .entry) .counts ⌝ }
+        ensures number { λ _. ⌜ now (self .exit) .number ≡ now (self .entry) .number ⌝ }
+    {
         let mut marker = self.marker();
         marker.reset_rotation();
         self.stack.marker = marker.word();
     }
 
     // Sets the previous marker from its word.
-    pub fn set_previous(&mut self, word: u64) -> Result<(), Refusal> {
+    pub fn set_previous(&mut self, word: u64) -> Result<(), Refusal>
+        ensures answer { λ r. ⌜ r ≡ previousAnswer word ⌝ }
+        ensures stack { λ _. ⌜ now (self .exit) .stack ≡ previousSet (now (self .entry) .stack) word ⌝ }
+        ensures counts { λ _. ⌜ now (self .exit) .counts ≡ now (self .entry) .counts ⌝ }
+        ensures number { λ _. ⌜ now (self .exit) .number ≡ now (self .entry) .number ⌝ }
+    {
         if FrameMarker::from_word(word).is_none() {
             return Err(Refusal::Marker);
         }
@@ -82,7 +105,9 @@ impl Context {
     }
 
     // The position of a register of the frame.
-    pub fn position(&self, register: u64) -> Result<u64, Refusal> {
+    pub fn position(&self, register: u64) -> Result<u64, Refusal>
+        ensures { λ r. ⌜ r ≡ positionOf (now (self .entry) .stack) register ⌝ }
+    {
         match self.marker().place(register) {
             Some(offset) => Ok(u64::from(self.stack.base) + u64::from(offset)),
             None => Err(Refusal::Register),

@@ -3,7 +3,8 @@ ghost use mathlib.Core.Path.{_≡_};
 ghost use mathlib.Core.Bool.{true, false};
 ghost use Prim.Native.Nat.{ℕ, _+_, _-_, _*_, _/_, _%_, _^_, _<_, _≤_};
 ghost use Rattle.std.specs.declared.option.Option.the-variants.{Some, None};
-ghost use Rattle.frame.specs.Markers.{sofOf, solOf, sorOf, rotationOf, lawfulWord};
+ghost use Rattle.frame.specs.Markers.{lawfulWord};
+ghost use Rattle.frame.specs.Fields.{PartsOfWord};
 
 mod frames;
 mod record;
@@ -70,7 +71,7 @@ impl Context {
 // The marker of a word that is lawful.
 fn marker_of(word: u64) -> FrameMarker
     requires { ⌜ lawfulWord word ≡ true ⌝ }
-    ensures { λ r. ⌜ (r .sof ≡ sofOf word) × (r .sol ≡ solOf word) × (r .sor ≡ sorOf word) × (r .rotation ≡ rotationOf word) ⌝ }
+    ensures { λ r. ⌜ PartsOfWord r word ⌝ }
 {
     match FrameMarker::from_word(word) {
         Some(marker) => marker,

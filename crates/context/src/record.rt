@@ -1,6 +1,6 @@
 // One context by its numbers (docs/RULES.md, "Contexts").
 ghost use mathlib.Core.Path.{_≡_};
-ghost use Rattle.context.specs.Records.{bspOf, storedOf};
+ghost use Rattle.context.specs.Records.{bspOf, storedOf, cursorOf};
 use address::address_of;
 use address::positions_below;
 use moves::Counts;
@@ -46,7 +46,7 @@ impl ContextRecord {
 
     // Where the moves stand.
     pub fn cursor(&self, counts: Counts) -> Cursor
-        ensures { λ r. ⌜ r ≡ record { start = now (self .entry) .start; bspstore = now (self .entry) .bspstore; rnat = now (self .entry) .rnat; counts = counts } ⌝ }
+        ensures { λ r. ⌜ r ≡ cursorOf (now (self .entry)) counts ⌝ }
     {
         Cursor {
             start: self.start,

@@ -1,4 +1,6 @@
 // Why an instruction is refused, in the order in which it is asked (docs/RULES.md, "Refusals").
+ghost use mathlib.Core.Path.{_≡_};
+ghost use Rattle.context.specs.Refusals.{refusalNumber};
 use moves::MoveFault;
 
 #[derive(Clone, Copy)]
@@ -18,7 +20,7 @@ pub enum Refusal {
     // The new top would pass the region.
     Top,
     // Not enough lies below.
-    Below,
+    Depth,
     // More than 96 registers among the words.
     TooMany,
     // The entry is not empty, or not parked.
@@ -41,7 +43,9 @@ pub enum Refusal {
 
 impl Refusal {
     // The number by which a refusal is told.
-    pub fn number(&self) -> u64 {
+    pub fn number(&self) -> u64
+        ensures { λ r. ⌜ r ≡ refusalNumber (now (self .entry)) ⌝ }
+    {
         match self {
             Refusal::Unreadable => 1,
             Refusal::Operand => 2,
@@ -50,7 +54,7 @@ impl Refusal {
             Refusal::Marker => 5,
             Refusal::Rotation => 6,
             Refusal::Top => 7,
-            Refusal::Below => 8,
+            Refusal::Depth => 8,
             Refusal::TooMany => 9,
             Refusal::Entry => 10,
             Refusal::Region => 11,

@@ -133,7 +133,7 @@ impl Context {
             return Err(Refusal::Top);
         }
         if marker.sol() > base {
-            return Err(Refusal::Below);
+            return Err(Refusal::Depth);
         }
         self.go_back(slots, store, base - marker.sol(), marker)?;
         Ok(())
@@ -148,7 +148,7 @@ impl Context {
         let marker = self.saved_marker();
         let base = self.stack.base;
         if marker.sof() > base {
-            return Err(Refusal::Below);
+            return Err(Refusal::Depth);
         }
         self.go_back(slots, store, base - marker.sof(), marker)?;
         Ok(())
@@ -163,7 +163,7 @@ impl Context {
     ) -> Result<(), Refusal> {
         let bsp = self.stack.bsp();
         if words > bsp - u64::from(self.stack.start) {
-            return Err(Refusal::Below);
+            return Err(Refusal::Depth);
         }
         let word = bsp - words;
         let first = positions_below(self.stack.start, word) as u32;
