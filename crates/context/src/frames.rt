@@ -4,7 +4,7 @@ ghost use Prim.Native.Nat.{ℕ, _+_, _-_, _*_, _/_, _%_, _^_, _<_, _≤_};
 ghost use Rattle.frame.specs.Fields.{PartsOfWord};
 ghost use Rattle.context.specs.Records.{topOf};
 ghost use Rattle.context.specs.Frames.{called, covered, rotatedFrame, resetFrame, previousSet, previousAnswer, positionOf};
-ghost use Rattle.context.specs.Frames.{writeFile, copyFile, addFile, readAnswer, oneRegister, twoRegisters, threeRegisters};
+ghost use Rattle.context.specs.Frames.{writeFile, copyFile, addFile, readAnswer, summed, oneRegister, twoRegisters, threeRegisters};
 use super::marker_of;
 use super::refusals::Refusal;
 use super::sound::Context;
@@ -121,7 +121,10 @@ impl Context {
         register: u64,
         word: u64,
         nat: bool,
-    ) -> Result<(), Refusal> {
+    ) -> Result<(), Refusal>
+        ensures answer { λ r. ⌜ r ≡ oneRegister (now (self .entry) .stack) register ⌝ }
+        ensures file { λ _. ⌜ now (slots .exit) ≡ writeFile (K·Kind .contentOf) (now (self .entry) .stack) (now (slots .entry)) register word nat ⌝ }
+    {
         let position = self.position(register)?;
         put_register(
             slots,
@@ -140,7 +143,10 @@ impl Context {
         slots: &mut [Slot<K>],
         target: u64,
         source: u64,
-    ) -> Result<(), Refusal> {
+    ) -> Result<(), Refusal>
+        ensures answer { λ r. ⌜ r ≡ twoRegisters (now (self .entry) .stack) target source ⌝ }
+        ensures file { λ _. ⌜ now (slots .exit) ≡ copyFile zeroContent (now (self .entry) .stack) (now (slots .entry)) target source ⌝ }
+    {
         let to = self.position(target)?;
         let from = self.position(source)?;
         let register = register_at(slots, from);
@@ -155,26 +161,34 @@ impl Context {
         target: u64,
         left: u64,
         right: u64,
-    ) -> Result<(), Refusal> {
+    ) -> Result<(), Refusal>
+        ensures answer { λ r. ⌜ r ≡ threeRegisters (now (self .entry) .stack) target left right ⌝ }
+        ensures file { λ _. ⌜ now (slots .exit) ≡ addFile zeroContent (K·Kind .sumOf) (now (self .entry) .stack) (now (slots .entry)) target left right ⌝ }
+    {
         let to = self.position(target)?;
         let first = self.position(left)?;
         let second = self.position(right)?;
         let a = register_at(slots, first);
         let b = register_at(slots, second);
-        put_register(
-            slots,
-            to,
-            Slot {
-                content: a.content.sum(b.content),
-                nat: a.nat || b.nat,
-            },
-        );
+        put_register(slots, to, sum_of(a, b));
         Ok(())
     }
 
     // The register's content and NaT bit.
-    pub fn read<K: Kind>(&self, slots: &[Slot<K>], register: u64) -> Result<Slot<K>, Refusal> {
+    pub fn read<K: Kind>(&self, slots: &[Slot<K>], register: u64) -> Result<Slot<K>, Refusal>
+        ensures { λ r. ⌜ r ≡ readAnswer zeroContent (now (self .entry) .stack) (now (slots .entry)) register ⌝ }
+    {
         let position = self.position(register)?;
         Ok(register_at(slots, position))
+    }
+}
+
+// The sum of two registers; its NaT bit is set if either was.
+fn sum_of<K: Kind>(a: Slot<K>, b: Slot<K>) -> Slot<K>
+    ensures { λ r. ⌜ r ≡ summed (K·Kind .sumOf) a b ⌝ }
+{
+    Slot {
+        content: a.content.sum(b.content),
+        nat: a.nat || b.nat,
     }
 }
