@@ -47,25 +47,25 @@ placed None base = Err Register
 abbrev pub positionOf : ContextRecord → ℕ → Result ℕ Refusal
 positionOf r register = placed (placeOf (sofOf (r .marker)) (sorOf (r .marker)) (rotationOf (r .marker)) register) (r .base)
 
--- what follows where a register's position is found
-abbrev pub onPosition : {T : Type 0} → Result ℕ Refusal → (ℕ → Result T Refusal) → Result T Refusal
-onPosition (Ok p) f = f p
-onPosition (Err e) f = Err e
+-- what follows where a question is granted its number
+abbrev pub onGranted : {T : Type 0} → Result ℕ Refusal → (ℕ → Result T Refusal) → Result T Refusal
+onGranted (Ok p) f = f p
+onGranted (Err e) f = Err e
 
-abbrev pub atPosition : {T : Type 0} → Result ℕ Refusal → (ℕ → T) → T → T
-atPosition (Ok p) f other = f p
-atPosition (Err e) f other = other
+abbrev pub ifGranted : {T : Type 0} → Result ℕ Refusal → (ℕ → T) → T → T
+ifGranted (Ok p) f other = f p
+ifGranted (Err e) f other = other
 
 module _ {C : Type 0} where
   -- write: the content of a word, and a NaT bit
   abbrev pub writeFile : (ℕ → C) → ContextRecord → List (Slot C) → ℕ → ℕ → Bool → List (Slot C)
   writeFile content r slots register word nat =
-      atPosition (positionOf r register) (λ p. registerPut slots p (record { content = content word; nat = nat })) slots
+      ifGranted (positionOf r register) (λ p. registerPut slots p (record { content = content word; nat = nat })) slots
 
   -- copy
   abbrev pub copyFile : C → ContextRecord → List (Slot C) → ℕ → ℕ → List (Slot C)
   copyFile nought r slots target source =
-      atPosition (positionOf r target) (λ p. atPosition (positionOf r source) (λ q. registerPut slots p (registerAt nought slots q)) slots) slots
+      ifGranted (positionOf r target) (λ p. ifGranted (positionOf r source) (λ q. registerPut slots p (registerAt nought slots q)) slots) slots
 
   -- the sum of two registers; the NaT bit is set if either was
   abbrev pub summed : (C → C → C) → Slot C → Slot C → Slot C
@@ -74,19 +74,19 @@ module _ {C : Type 0} where
   -- add
   abbrev pub addFile : C → (C → C → C) → ContextRecord → List (Slot C) → ℕ → ℕ → ℕ → List (Slot C)
   addFile nought sum r slots target left right =
-      atPosition (positionOf r target) (λ p. atPosition (positionOf r left) (λ q. atPosition (positionOf r right)
+      ifGranted (positionOf r target) (λ p. ifGranted (positionOf r left) (λ q. ifGranted (positionOf r right)
       (λ s. registerPut slots p (summed sum (registerAt nought slots q) (registerAt nought slots s))) slots) slots) slots
 
   -- read
   abbrev pub readAnswer : C → ContextRecord → List (Slot C) → ℕ → Result (Slot C) Refusal
-  readAnswer nought r slots register = onPosition (positionOf r register) (λ p. Ok (registerAt nought slots p))
+  readAnswer nought r slots register = onGranted (positionOf r register) (λ p. Ok (registerAt nought slots p))
 
 -- the registers are in the frame, asked in the order in which they are named
 abbrev pub oneRegister : ContextRecord → ℕ → Result (Unit {0}) Refusal
-oneRegister r a = onPosition (positionOf r a) (λ _. Ok tt)
+oneRegister r a = onGranted (positionOf r a) (λ _. Ok tt)
 
 abbrev pub twoRegisters : ContextRecord → ℕ → ℕ → Result (Unit {0}) Refusal
-twoRegisters r a b = onPosition (positionOf r a) (λ _. oneRegister r b)
+twoRegisters r a b = onGranted (positionOf r a) (λ _. oneRegister r b)
 
 abbrev pub threeRegisters : ContextRecord → ℕ → ℕ → ℕ → Result (Unit {0}) Refusal
-threeRegisters r a b c = onPosition (positionOf r a) (λ _. twoRegisters r b c)
+threeRegisters r a b c = onGranted (positionOf r a) (λ _. twoRegisters r b c)

@@ -1,10 +1,14 @@
 // Instructions that spill: alloc, flush, the early spill; and the early fill.
 ghost use mathlib.Core.Path.{_≡_};
-ghost use Prim.Native.Nat.{ℕ, _+_, _-_, _*_, _/_, _%_, _^_, _<_, _≤_};
+ghost use mathlib.Core.Bool.{true};
+ghost use Prim.Native.Nat.{ℕ, _+_, _-_, _<_, _≤_};
+ghost use lib.ListN.{length};
+ghost use Rattle.std.specs.Vec.{made};
 ghost use Rattle.address.specs.Addresses.{capacityOf};
-ghost use Rattle.frame.specs.Markers.{sofOf, solOf, sorOf, rotationOf, lawfulWord};
-ghost use Rattle.std.specs.declared.result.Result.the-variants.{Ok, Err};
-ghost use Rattle.context.specs.Records.{Kept};
+ghost use Rattle.frame.specs.Markers.{sofOf, lawfulWord};
+ghost use Rattle.context.specs.Records.{withMoves};
+ghost use Rattle.context.specs.Spilling.{spillEndOf, allocMarker, runTo, growRun, growStack, growFile};
+use super::marker_of;
 use super::refusals::Refusal;
 use super::refusals::RefusalFromMoveFault;
 use super::sound::Context;
@@ -24,7 +28,9 @@ use store::Store;
 impl Context {
     // Takes over where the moves stand.
     pub(crate) fn settle(&mut self, at: Cursor)
-        ensures { λ _. ⌜ Kept (now (self .entry) .stack) (now (self .exit) .stack) ⌝ }
+        ensures stack { λ _. ⌜ now (self .exit) .stack ≡ withMoves (now (self .entry) .stack) at ⌝ }
+        ensures counts { λ _. ⌜ now (self .exit) .counts ≡ at .counts ⌝ }
+        ensures number { λ _. ⌜ now (self .exit) .number ≡ now (self .entry) .number ⌝ }
     {
         self.stack.bspstore = at.bspstore;
         self.stack.rnat = at.rnat;
@@ -38,7 +44,11 @@ impl Context {
         store: &mut S,
         end: u64,
     ) -> Result<(), MoveFault>
-        ensures { λ _. ⌜ Kept (now (self .entry) .stack) (now (self .exit) .stack) ⌝ }
+        ensures answer { λ r. ⌜ r ≡ runTo zeroContent (K·Kind .imageOf) (now (slots .entry)) (now (self .entry) .number) (now (self .entry) .stack) (now (self .entry) .counts) (S·Store .meaning (now (store .entry))) end .answer ⌝ }
+        ensures stack { λ _. ⌜ now (self .exit) .stack ≡ withMoves (now (self .entry) .stack) (runTo zeroContent (K·Kind .imageOf) (now (slots .entry)) (now (self .entry) .number) (now (self .entry) .stack) (now (self .entry) .counts) (S·Store .meaning (now (store .entry))) end .cursor) ⌝ }
+        ensures counts { λ _. ⌜ now (self .exit) .counts ≡ runTo zeroContent (K·Kind .imageOf) (now (slots .entry)) (now (self .entry) .number) (now (self .entry) .stack) (now (self .entry) .counts) (S·Store .meaning (now (store .entry))) end .cursor .counts ⌝ }
+        ensures words { λ _. ⌜ S·Store .meaning (now (store .exit)) ≡ runTo zeroContent (K·Kind .imageOf) (now (slots .entry)) (now (self .entry) .number) (now (self .entry) .stack) (now (self .entry) .counts) (S·Store .meaning (now (store .entry))) end .meaning ⌝ }
+        ensures number { λ _. ⌜ now (self .exit) .number ≡ now (self .entry) .number ⌝ }
     {
         let mut at = self.stack.cursor(self.counts);
         let moved = spill_until(&mut at, slots, store, end, self.number);
@@ -47,8 +57,10 @@ impl Context {
     }
 
     // The word past the last that is spilled until all positions below `floor` are stored.
-    pub(crate) fn spill_end(&self, floor: u32) -> u64 {
-        if self.stack.stored() < u64::from(floor) && floor > 0 {
+    pub(crate) fn spill_end(&self, floor: u32) -> u64
+        ensures { λ r. ⌜ r ≡ spillEndOf (now (self .entry) .stack) floor ⌝ }
+    {
+        if self.stack.stored() < u64::from(floor) {
             address_of(self.stack.start, floor - 1) + 1
         } else {
             self.stack.bspstore
@@ -62,9 +74,11 @@ impl Context {
         u64::from(top).saturating_sub(slots) as u32
     }
 
-    // The marker that alloc sets, where it is lawful and the new top lies in the region.
-    fn allocated(&self, sof: u64, sol: u64, sor: u64) -> Result<FrameMarker, Refusal>
-        ensures { λ r. ⌜ elim r [ Ok m ↦ now (self .entry) .stack .base + m .sof ≤ capacityOf (now (self .entry) .stack .size) | Err _ ↦ Unit {0} ] ⌝ }
+    // The word of the marker that alloc sets, where it is lawful and the new top lies in the region.
+    fn allocated(&self, sof: u64, sol: u64, sor: u64) -> Result<u64, Refusal>
+        ensures word { λ r. ⌜ r ≡ allocMarker (now (self .entry) .stack) sof sol sor ⌝ }
+        ensures lawful { λ r. ⌜ made r (λ w. lawfulWord w ≡ true) ⌝ }
+        ensures held { λ r. ⌜ made r (λ w. now (self .entry) .stack .base + sofOf w ≤ capacityOf (now (self .entry) .stack .size)) ⌝ }
     {
         let old = self.marker();
         let Some(shape) = FrameMarker::from_parts(sof, sol, sor, 0) else {
@@ -76,13 +90,40 @@ impl Context {
         if u64::from(self.stack.base + shape.sof()) > capacity(self.stack.size) {
             return Err(Refusal::Top);
         }
-        let Some(marker) = FrameMarker::from_parts(sof, sol, sor, u64::from(old.rotation())) else {
-            return Err(Refusal::Rotation);
-        };
-        Ok(marker)
+        match FrameMarker::from_parts(sof, sol, sor, u64::from(old.rotation())) {
+            Some(marker) => Ok(marker.word()),
+            None => unreachable(),
+        }
     }
 
-    // Alloc: makes room for the new frame by spills, and clears the positions that top rises past.
+    // Makes room for the frame of the marker `word` by spills, and clears the positions that top rises past. At a shut
+    // word the spills before it stand.
+    fn grow<K: Kind, S: Store>(
+        &mut self,
+        slots: &mut [Slot<K>],
+        store: &mut S,
+        word: u64,
+    ) -> Result<(), MoveFault>
+        requires { ⌜ lawfulWord word ≡ true ⌝ ∗ ⌜ now self .stack .base + sofOf word ≤ capacityOf (now self .stack .size) ⌝ }
+        ensures answer { λ r. ⌜ r ≡ growRun zeroContent (K·Kind .imageOf) (now (slots .entry)) (now (self .entry) .number) (now (self .entry) .stack) (now (self .entry) .counts) (S·Store .meaning (now (store .entry))) word .answer ⌝ }
+        ensures stack { λ _. ⌜ now (self .exit) .stack ≡ growStack (now (slots .entry)) (now (self .entry) .stack) (growRun zeroContent (K·Kind .imageOf) (now (slots .entry)) (now (self .entry) .number) (now (self .entry) .stack) (now (self .entry) .counts) (S·Store .meaning (now (store .entry))) word) word ⌝ }
+        ensures counts { λ _. ⌜ now (self .exit) .counts ≡ growRun zeroContent (K·Kind .imageOf) (now (slots .entry)) (now (self .entry) .number) (now (self .entry) .stack) (now (self .entry) .counts) (S·Store .meaning (now (store .entry))) word .cursor .counts ⌝ }
+        ensures file { λ _. ⌜ now (slots .exit) ≡ growFile zeroContent (now (slots .entry)) (now (self .entry) .stack) (growRun zeroContent (K·Kind .imageOf) (now (slots .entry)) (now (self .entry) .number) (now (self .entry) .stack) (now (self .entry) .counts) (S·Store .meaning (now (store .entry))) word) word ⌝ }
+        ensures words { λ _. ⌜ S·Store .meaning (now (store .exit)) ≡ growRun zeroContent (K·Kind .imageOf) (now (slots .entry)) (now (self .entry) .number) (now (self .entry) .stack) (now (self .entry) .counts) (S·Store .meaning (now (store .entry))) word .meaning ⌝ }
+        ensures number { λ _. ⌜ now (self .exit) .number ≡ now (self .entry) .number ⌝ }
+    {
+        let old_top = self.top();
+        let top = self.stack.base + marker_of(word).sof();
+        let floor = Context::floor(top, slots.len() as u64);
+        let end = self.spill_end(floor);
+        self.spill_to(slots, store, end)?;
+        clear_registers(slots, u64::from(old_top), u64::from(top));
+        self.stack.lo = self.stack.lo.max(floor);
+        self.stack.marker = word;
+        Ok(())
+    }
+
+    // Alloc: the frame gets another size; answers the previous marker's word.
     pub fn alloc<K: Kind, S: Store>(
         &mut self,
         slots: &mut [Slot<K>],
@@ -91,15 +132,8 @@ impl Context {
         sol: u64,
         sor: u64,
     ) -> Result<u64, Refusal> {
-        let marker = self.allocated(sof, sol, sor)?;
-        let old_top = self.top();
-        let top = self.stack.base + marker.sof();
-        let floor = Context::floor(top, slots.len() as u64);
-        let end = self.spill_end(floor);
-        self.spill_to(slots, store, end)?;
-        clear_registers(slots, u64::from(old_top), u64::from(top));
-        self.stack.lo = self.stack.lo.max(floor);
-        self.stack.marker = marker.word();
+        let word = self.allocated(sof, sol, sor)?;
+        self.grow(slots, store, word)?;
         Ok(self.stack.previous)
     }
 
