@@ -1,4 +1,5 @@
 pub mod Frames
 pub mod Records
 pub mod Refusals
+pub mod Scenes
 pub mod Spilling

@@ -8,29 +8,15 @@ use Rattle.std.specs.declared.result.Result.{Result}
 use Rattle.std.specs.declared.result.Result.the-variants.{Ok, Err}
 use Rattle.address.specs.Addresses.{addressOf, capacityOf}
 use Rattle.frame.specs.Markers.{sofOf, solOf, sorOf, rotationOf, lawful, wordOfParts}
-use Rattle.register.specs.Slots.{registerPut, registersCleared}
-use Rattle.register.specs.declared.Slot.{Slot}
-use Rattle.store.specs.Meaning.{Meaning}
-use Rattle.store.specs.Rules.{isOpen, written}
-use Rattle.moves.specs.Steps.{MoveResult, readMore}
-use Rattle.moves.specs.Spills.{SpillEnd, spillRun, spillAnswer, spillValue, spillPast}
-use Rattle.moves.specs.Fills.{fillOpen, fillAnswer, fillReads, filled}
-use Rattle.moves.specs.declared.state.Cursor.{Cursor}
-use Rattle.moves.specs.declared.state.Counts.{Counts}
+use Rattle.register.specs.Slots.{registersCleared}
+use Rattle.moves.specs.Steps.{MoveResult}
+use Rattle.moves.specs.Spills.{SpillEnd, spillRun}
+use Rattle.moves.specs.Fills.{FillEnd, fillRun}
 use Rattle.context.specs.declared.record.ContextRecord.{ContextRecord}
 use Rattle.context.specs.declared.refusals.Refusal.{Refusal}
-use Rattle.context.specs.declared.refusals.Refusal.the-variants.{Marker, Rotation, Top, Nothing, Shut}
-use Rattle.context.specs.Records.{bspOf, storedOf, topOf, cursorOf, withFrame, withLo, withMoves}
-
--- a shut word refuses; otherwise the answer
-abbrev pub moved : {T : Type 0} → MoveResult → Result T Refusal → Result T Refusal
-moved (Ok v) answer = answer
-moved (Err fault) answer = Err (Shut fault)
-
--- what is left where the moves went through, and where they did not
-abbrev pub ifMoved : {T : Type 0} → MoveResult → T → T → T
-ifMoved (Ok v) through stopped = through
-ifMoved (Err fault) through stopped = stopped
+use Rattle.context.specs.declared.refusals.Refusal.the-variants.{Marker, Rotation, Top, Nothing}
+use Rattle.context.specs.Records.{bspOf, storedOf, topOf, withFrame, withLo}
+use Rattle.context.specs.Scenes.{Scene, cursorIn, withStack, withFile, settled, spilled, moved, ifMoved}
 
 -- the word past the last that is spilled until all positions below floor are stored
 abbrev pub spillEndOf : ContextRecord → ℕ → ℕ
@@ -47,23 +33,28 @@ allocMarker r sof sol sor =
 
 module _ {C : Type 0} where
   -- spills until BSPSTORE is end
-  abbrev pub runTo : C → (C → ℕ) → List (Slot C) → ℕ → ContextRecord → Counts → Meaning → ℕ → SpillEnd
-  runTo nought image slots number r counts m end =
-      spillRun nought image slots number (end - r .bspstore) (cursorOf r counts) m
+  abbrev pub runTo : C → (C → ℕ) → Scene C → ℕ → SpillEnd
+  runTo nought image s end = spillRun nought image (s .file) (s .number) (end - s .stack .bspstore) (cursorIn s) (s .meaning)
 
-  -- the spills that a frame with this marker needs
-  abbrev pub growRun : C → (C → ℕ) → List (Slot C) → ℕ → ContextRecord → Counts → Meaning → ℕ → SpillEnd
-  growRun nought image slots number r counts m w =
-      runTo nought image slots number r counts m (spillEndOf r ((r .base + sofOf w) - length slots))
+  -- the lowest position that the file holds below a top
+  abbrev pub floorOf : Scene C → ℕ → ℕ
+  floorOf s top = top - length (s .file)
 
-  -- the record after them, and with the new frame
-  abbrev pub growStack : List (Slot C) → ContextRecord → SpillEnd → ℕ → ContextRecord
-  growStack slots r run w =
-      ifMoved (run .answer)
-      (withLo (withFrame (withMoves r (run .cursor)) (r .base) w) (max (r .lo) ((r .base + sofOf w) - length slots)))
-      (withMoves r (run .cursor))
+  -- the top of a frame with another marker at the same base
+  abbrev pub topWith : Scene C → ℕ → ℕ
+  topWith s w = s .stack .base + sofOf w
 
   -- positions that top rises past are zero with NaT clear
-  abbrev pub growFile : C → List (Slot C) → ContextRecord → SpillEnd → ℕ → List (Slot C)
-  growFile nought slots r run w =
-      ifMoved (run .answer) (registersCleared nought ((r .base + sofOf w) - topOf r) (topOf r) slots) slots
+  abbrev pub clearedTo : C → Scene C → ℕ → Scene C
+  clearedTo nought s top = withFile s (registersCleared nought (top - topOf (s .stack)) (topOf (s .stack)) (s .file))
+
+  -- the spills that a frame with another marker needs
+  abbrev pub growRun : C → (C → ℕ) → Scene C → ℕ → SpillEnd
+  growRun nought image s w = runTo nought image s (spillEndOf (s .stack) (floorOf s (topWith s w)))
+
+  -- the new frame, after those spills
+  abbrev pub framed : Scene C → ℕ → Scene C
+  framed s w = withStack s (withLo (withFrame (s .stack) (s .stack .base) w) (max (s .stack .lo) (floorOf s (topWith s w))))
+
+  abbrev pub grown : C → Scene C → SpillEnd → ℕ → Scene C
+  grown nought s run w = ifMoved (run .answer) (framed (clearedTo nought (spilled s run) (topWith s w)) w) (spilled s run)

@@ -7,7 +7,8 @@ ghost use Rattle.std.specs.Vec.{made};
 ghost use Rattle.address.specs.Addresses.{capacityOf};
 ghost use Rattle.frame.specs.Markers.{sofOf, lawfulWord};
 ghost use Rattle.context.specs.Records.{withMoves};
-ghost use Rattle.context.specs.Spilling.{spillEndOf, allocMarker, runTo, growRun, growStack, growFile};
+ghost use Rattle.context.specs.Scenes.{seen, spilled};
+ghost use Rattle.context.specs.Spilling.{spillEndOf, allocMarker, runTo, growRun, grown};
 use super::marker_of;
 use super::refusals::Refusal;
 use super::refusals::RefusalFromMoveFault;
@@ -44,11 +45,11 @@ impl Context {
         store: &mut S,
         end: u64,
     ) -> Result<(), MoveFault>
-        ensures answer { λ r. ⌜ r ≡ runTo zeroContent (K·Kind .imageOf) (now (slots .entry)) (now (self .entry) .number) (now (self .entry) .stack) (now (self .entry) .counts) (S·Store .meaning (now (store .entry))) end .answer ⌝ }
-        ensures stack { λ _. ⌜ now (self .exit) .stack ≡ withMoves (now (self .entry) .stack) (runTo zeroContent (K·Kind .imageOf) (now (slots .entry)) (now (self .entry) .number) (now (self .entry) .stack) (now (self .entry) .counts) (S·Store .meaning (now (store .entry))) end .cursor) ⌝ }
-        ensures counts { λ _. ⌜ now (self .exit) .counts ≡ runTo zeroContent (K·Kind .imageOf) (now (slots .entry)) (now (self .entry) .number) (now (self .entry) .stack) (now (self .entry) .counts) (S·Store .meaning (now (store .entry))) end .cursor .counts ⌝ }
-        ensures words { λ _. ⌜ S·Store .meaning (now (store .exit)) ≡ runTo zeroContent (K·Kind .imageOf) (now (slots .entry)) (now (self .entry) .number) (now (self .entry) .stack) (now (self .entry) .counts) (S·Store .meaning (now (store .entry))) end .meaning ⌝ }
-        ensures number { λ _. ⌜ now (self .exit) .number ≡ now (self .entry) .number ⌝ }
+        ensures answer { λ r. ⌜ r
+            ≡ runTo zeroContent (K·Kind .imageOf) (seen (now (self .entry)) (now (slots .entry)) (S·Store .meaning (now (store .entry)))) end .answer ⌝ }
+        ensures after { λ _. ⌜ seen (now (self .exit)) (now (slots .entry)) (S·Store .meaning (now (store .exit)))
+            ≡ spilled (seen (now (self .entry)) (now (slots .entry)) (S·Store .meaning (now (store .entry))))
+              (runTo zeroContent (K·Kind .imageOf) (seen (now (self .entry)) (now (slots .entry)) (S·Store .meaning (now (store .entry)))) end) ⌝ }
     {
         let mut at = self.stack.cursor(self.counts);
         let moved = spill_until(&mut at, slots, store, end, self.number);
@@ -105,12 +106,11 @@ impl Context {
         word: u64,
     ) -> Result<(), MoveFault>
         requires { ⌜ lawfulWord word ≡ true ⌝ ∗ ⌜ now self .stack .base + sofOf word ≤ capacityOf (now self .stack .size) ⌝ }
-        ensures answer { λ r. ⌜ r ≡ growRun zeroContent (K·Kind .imageOf) (now (slots .entry)) (now (self .entry) .number) (now (self .entry) .stack) (now (self .entry) .counts) (S·Store .meaning (now (store .entry))) word .answer ⌝ }
-        ensures stack { λ _. ⌜ now (self .exit) .stack ≡ growStack (now (slots .entry)) (now (self .entry) .stack) (growRun zeroContent (K·Kind .imageOf) (now (slots .entry)) (now (self .entry) .number) (now (self .entry) .stack) (now (self .entry) .counts) (S·Store .meaning (now (store .entry))) word) word ⌝ }
-        ensures counts { λ _. ⌜ now (self .exit) .counts ≡ growRun zeroContent (K·Kind .imageOf) (now (slots .entry)) (now (self .entry) .number) (now (self .entry) .stack) (now (self .entry) .counts) (S·Store .meaning (now (store .entry))) word .cursor .counts ⌝ }
-        ensures file { λ _. ⌜ now (slots .exit) ≡ growFile zeroContent (now (slots .entry)) (now (self .entry) .stack) (growRun zeroContent (K·Kind .imageOf) (now (slots .entry)) (now (self .entry) .number) (now (self .entry) .stack) (now (self .entry) .counts) (S·Store .meaning (now (store .entry))) word) word ⌝ }
-        ensures words { λ _. ⌜ S·Store .meaning (now (store .exit)) ≡ growRun zeroContent (K·Kind .imageOf) (now (slots .entry)) (now (self .entry) .number) (now (self .entry) .stack) (now (self .entry) .counts) (S·Store .meaning (now (store .entry))) word .meaning ⌝ }
-        ensures number { λ _. ⌜ now (self .exit) .number ≡ now (self .entry) .number ⌝ }
+        ensures answer { λ r. ⌜ r
+            ≡ growRun zeroContent (K·Kind .imageOf) (seen (now (self .entry)) (now (slots .entry)) (S·Store .meaning (now (store .entry)))) word .answer ⌝ }
+        ensures after { λ _. ⌜ seen (now (self .exit)) (now (slots .exit)) (S·Store .meaning (now (store .exit)))
+            ≡ grown zeroContent (seen (now (self .entry)) (now (slots .entry)) (S·Store .meaning (now (store .entry))))
+              (growRun zeroContent (K·Kind .imageOf) (seen (now (self .entry)) (now (slots .entry)) (S·Store .meaning (now (store .entry)))) word) word ⌝ }
     {
         let old_top = self.top();
         let top = self.stack.base + marker_of(word).sof();
