@@ -1,5 +1,6 @@
 // Why an instruction is refused, in the order in which it is asked (docs/RULES.md, "Refusals").
 ghost use mathlib.Core.Path.{_≡_};
+ghost use Rattle.context.specs.declared.refusals.Refusal.the-variants.{Shut};
 ghost use Rattle.context.specs.Refusals.{refusalNumber};
 use moves::MoveFault;
 
@@ -69,6 +70,8 @@ impl Refusal {
 }
 
 pub impl From<MoveFault> for Refusal as RefusalFromMoveFault {
+    ghost converts = { λ fault r. r ≡ Shut fault };
+
     fn from(fault: MoveFault) -> Refusal {
         Refusal::Shut(fault)
     }

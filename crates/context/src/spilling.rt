@@ -7,8 +7,9 @@ ghost use Rattle.std.specs.Vec.{made};
 ghost use Rattle.address.specs.Addresses.{capacityOf};
 ghost use Rattle.frame.specs.Markers.{sofOf, lawfulWord};
 ghost use Rattle.context.specs.Records.{withMoves};
-ghost use Rattle.context.specs.Scenes.{seen, spilled};
-ghost use Rattle.context.specs.Spilling.{spillEndOf, allocMarker, runTo, growRun, grown};
+ghost use Rattle.context.specs.Scenes.{seen, spilled, withFile, ifMoved};
+ghost use Rattle.context.specs.Spilling.{spillEndOf, allocMarker, runTo, growRun, grown, allocAnswer, allocAfter, flushRun, flushAnswer};
+ghost use Rattle.context.specs.Spilling.{earlySpillAnswer, earlySpillAfter, earlyFillRun, earlyFilled, earlyFillAnswer, earlyFillAfter};
 use super::marker_of;
 use super::refusals::Refusal;
 use super::refusals::RefusalFromMoveFault;
@@ -18,8 +19,7 @@ use address::capacity;
 use frame::FrameMarker;
 use moves::Cursor;
 use moves::MoveFault;
-use moves::fill;
-use moves::spill_step;
+use moves::fill_run;
 use moves::spill_until;
 use register::Kind;
 use register::Slot;
@@ -131,7 +131,12 @@ impl Context {
         sof: u64,
         sol: u64,
         sor: u64,
-    ) -> Result<u64, Refusal> {
+    ) -> Result<u64, Refusal>
+        ensures answer { λ r. ⌜ r
+            ≡ allocAnswer zeroContent (K·Kind .imageOf) (seen (now (self .entry)) (now (slots .entry)) (S·Store .meaning (now (store .entry)))) sof sol sor ⌝ }
+        ensures after { λ _. ⌜ seen (now (self .exit)) (now (slots .exit)) (S·Store .meaning (now (store .exit)))
+            ≡ allocAfter zeroContent (K·Kind .imageOf) (seen (now (self .entry)) (now (slots .entry)) (S·Store .meaning (now (store .entry)))) sof sol sor ⌝ }
+    {
         let word = self.allocated(sof, sol, sor)?;
         self.grow(slots, store, word)?;
         Ok(self.stack.previous)
@@ -142,7 +147,13 @@ impl Context {
         &mut self,
         slots: &[Slot<K>],
         store: &mut S,
-    ) -> Result<(u64, u64), Refusal> {
+    ) -> Result<(u64, u64), Refusal>
+        ensures answer { λ r. ⌜ r
+            ≡ flushAnswer zeroContent (K·Kind .imageOf) (seen (now (self .entry)) (now (slots .entry)) (S·Store .meaning (now (store .entry)))) ⌝ }
+        ensures after { λ _. ⌜ seen (now (self .exit)) (now (slots .entry)) (S·Store .meaning (now (store .exit)))
+            ≡ spilled (seen (now (self .entry)) (now (slots .entry)) (S·Store .meaning (now (store .entry))))
+              (flushRun zeroContent (K·Kind .imageOf) (seen (now (self .entry)) (now (slots .entry)) (S·Store .meaning (now (store .entry))))) ⌝ }
+    {
         let bsp = self.stack.bsp();
         self.spill_to(slots, store, bsp)?;
         Ok((bsp, self.stack.rnat))
@@ -153,30 +164,57 @@ impl Context {
         &mut self,
         slots: &[Slot<K>],
         store: &mut S,
-    ) -> Result<(), Refusal> {
+    ) -> Result<(), Refusal>
+        ensures answer { λ r. ⌜ r
+            ≡ earlySpillAnswer zeroContent (K·Kind .imageOf) (seen (now (self .entry)) (now (slots .entry)) (S·Store .meaning (now (store .entry)))) ⌝ }
+        ensures after { λ _. ⌜ seen (now (self .exit)) (now (slots .entry)) (S·Store .meaning (now (store .exit)))
+            ≡ earlySpillAfter zeroContent (K·Kind .imageOf) (seen (now (self .entry)) (now (slots .entry)) (S·Store .meaning (now (store .entry)))) ⌝ }
+    {
         if self.stack.bspstore >= self.stack.bsp() {
             return Err(Refusal::Nothing);
         }
-        let mut at = self.stack.cursor(self.counts);
-        spill_step(&mut at, slots, store, self.number)?;
-        self.settle(at);
+        self.spill_to(slots, store, self.stack.bspstore + 1)?;
         Ok(())
     }
 
-    // One early fill, of the position below `lo`.
+    // Fills the position below `lo`.
+    fn fill_below<K: Kind, S: Store>(
+        &mut self,
+        slots: &mut [Slot<K>],
+        store: &S,
+    ) -> Result<(), MoveFault>
+        requires { ⌜ 0 < now self .stack .lo ⌝ }
+        ensures answer { λ r. ⌜ r
+            ≡ earlyFillRun (K·Kind .contentOf) (seen (now (self .entry)) (now (slots .entry)) (S·Store .meaning (now (store .entry)))) .answer ⌝ }
+        ensures after { λ _. ⌜ seen (now (self .exit)) (now (slots .exit)) (S·Store .meaning (now (store .entry)))
+            ≡ ifMoved (earlyFillRun (K·Kind .contentOf) (seen (now (self .entry)) (now (slots .entry)) (S·Store .meaning (now (store .entry)))) .answer)
+              (earlyFilled (seen (now (self .entry)) (now (slots .entry)) (S·Store .meaning (now (store .entry)))) (earlyFillRun (K·Kind .contentOf) (seen (now (self .entry)) (now (slots .entry)) (S·Store .meaning (now (store .entry))))))
+              (withFile (seen (now (self .entry)) (now (slots .entry)) (S·Store .meaning (now (store .entry)))) (earlyFillRun (K·Kind .contentOf) (seen (now (self .entry)) (now (slots .entry)) (S·Store .meaning (now (store .entry)))) .file)) ⌝ }
+    {
+        let lo = self.stack.lo;
+        let mut at = self.stack.cursor(self.counts);
+        fill_run(&mut at, slots, store, lo - 1, lo, self.number)?;
+        self.settle(at);
+        self.stack.lo = lo - 1;
+        Ok(())
+    }
+
+    // One early fill, of the position below `lo`, where the file has room for it.
     pub fn early_fill<K: Kind, S: Store>(
         &mut self,
         slots: &mut [Slot<K>],
         store: &S,
-    ) -> Result<(), Refusal> {
+    ) -> Result<(), Refusal>
+        ensures answer { λ r. ⌜ r
+            ≡ earlyFillAnswer (K·Kind .contentOf) (seen (now (self .entry)) (now (slots .entry)) (S·Store .meaning (now (store .entry)))) ⌝ }
+        ensures after { λ _. ⌜ seen (now (self .exit)) (now (slots .exit)) (S·Store .meaning (now (store .entry)))
+            ≡ earlyFillAfter (K·Kind .contentOf) (seen (now (self .entry)) (now (slots .entry)) (S·Store .meaning (now (store .entry)))) ⌝ }
+    {
         let lo = self.stack.lo;
         if lo == 0 || u64::from(self.top().saturating_sub(lo)) >= slots.len() as u64 {
             return Err(Refusal::Nothing);
         }
-        let mut at = self.stack.cursor(self.counts);
-        fill(&mut at, slots, store, lo - 1, self.number)?;
-        self.settle(at);
-        self.stack.lo = lo - 1;
+        self.fill_below(slots, store)?;
         Ok(())
     }
 }
