@@ -1,5 +1,6 @@
 pub mod Frames
 pub mod Records
 pub mod Refusals
+pub mod Returns
 pub mod Scenes
 pub mod Spilling
