@@ -28,10 +28,10 @@ module _ {C : Type 0} where
   roomAsked s floor =
       spillsAsked (s .meaning) (s .number) (s .stack .start) (spillEndOf (s .stack) floor - s .stack .bspstore) (s .stack .bspstore)
 
-  abbrev pub roomAnswer : C → (C → ℕ) → Scene C → ℕ → MoveResult
+  unfoldable pub roomAnswer : C → (C → ℕ) → Scene C → ℕ → MoveResult
   roomAnswer nought image s floor = both (roomAsked s floor) (runTo nought image s (spillEndOf (s .stack) floor) .answer)
 
-  abbrev pub roomAfter : C → (C → ℕ) → Scene C → ℕ → Scene C
+  unfoldable pub roomAfter : C → (C → ℕ) → Scene C → ℕ → Scene C
   roomAfter nought image s floor = ifMoved (roomAsked s floor) (spilled s (runTo nought image s (spillEndOf (s .stack) floor))) s
 
   -- asking about the word of a lowering comes first where BSPSTORE is lowered to a collection: that word is the lowest
@@ -54,10 +54,10 @@ module _ {C : Type 0} where
   abbrev pub refillCursor : (ℕ → C) → Scene C → ℕ → ℕ → ℕ → Cursor
   refillCursor content s low high word = lowered (s .meaning) (fillsTo content s low high .cursor) word
 
-  abbrev pub refillAnswer : (ℕ → C) → Scene C → ℕ → ℕ → ℕ → MoveResult
+  unfoldable pub refillAnswer : (ℕ → C) → Scene C → ℕ → ℕ → ℕ → MoveResult
   refillAnswer content s low high word = both (refillAsked s low high word) (refillMoved content s low high word)
 
-  abbrev pub refillAfter : (ℕ → C) → Scene C → ℕ → ℕ → ℕ → Scene C
+  unfoldable pub refillAfter : (ℕ → C) → Scene C → ℕ → ℕ → ℕ → Scene C
   refillAfter content s low high word =
       ifMoved (refillAsked s low high word)
       (ifMoved (refillMoved content s low high word)
@@ -66,14 +66,14 @@ module _ {C : Type 0} where
       s
 
   -- the moves that bring a frame from base to top − 1 into the file
-  abbrev pub frameAnswer : C → (C → ℕ) → (ℕ → C) → Scene C → ℕ → ℕ → MoveResult
+  unfoldable pub frameAnswer : C → (C → ℕ) → (ℕ → C) → Scene C → ℕ → ℕ → MoveResult
   frameAnswer nought image content s base top =
       cond (ltb (storedOf (s .stack)) (floorOf s top)) (roomAnswer nought image s (floorOf s top))
       (cond (ltb base (storedOf (s .stack)))
       (refillAnswer content s base (min (s .stack .lo) top) (addressOf (s .stack .start) base))
       (Ok tt))
 
-  abbrev pub frameAfter : C → (C → ℕ) → (ℕ → C) → Scene C → ℕ → ℕ → Scene C
+  unfoldable pub frameAfter : C → (C → ℕ) → (ℕ → C) → Scene C → ℕ → ℕ → Scene C
   frameAfter nought image content s base top =
       cond (ltb (storedOf (s .stack)) (floorOf s top)) (roomAfter nought image s (floorOf s top))
       (cond (ltb base (storedOf (s .stack)))
