@@ -23,7 +23,7 @@ module _ {C : Type 0} (nought : C) (image : C → ℕ) (content : ℕ → C) (s 
   room-after h = let e = lt-ltb (storedOf (s .stack)) (floorOf s top) h in rw e refl
 
   pub refill-frame-answer : floorOf s top ≤ storedOf (s .stack) → base < storedOf (s .stack)
-    → frameAnswer nought image content s base top ≡ refillAnswer content s base (min (s .stack .lo) top) (addressOf (s .stack .start) base)
+      → frameAnswer nought image content s base top ≡ refillAnswer content s base (min (s .stack .lo) top) (addressOf (s .stack .start) base)
   unfolding frameAnswer
   refill-frame-answer h k =
       let e = le-ltb (storedOf (s .stack)) (floorOf s top) h in
@@ -31,7 +31,7 @@ module _ {C : Type 0} (nought : C) (image : C → ℕ) (content : ℕ → C) (s 
       rw (e, f) refl
 
   pub refill-frame-after : floorOf s top ≤ storedOf (s .stack) → base < storedOf (s .stack)
-    → frameAfter nought image content s base top ≡ refillAfter content s base (min (s .stack .lo) top) (addressOf (s .stack .start) base)
+      → frameAfter nought image content s base top ≡ refillAfter content s base (min (s .stack .lo) top) (addressOf (s .stack .start) base)
   unfolding frameAfter
   refill-frame-after h k =
       let e = le-ltb (storedOf (s .stack)) (floorOf s top) h in

@@ -20,25 +20,25 @@ use Rattle.context.specs.Returns.{refillAsked, refillAnswer, refillAfter}
 
 -- a lowering that was granted found its word open
 open-by : {E : Type 0} (reads open? : Bool) (e : E) → _≡_ {A = Result (Unit {0}) E} (cond reads (cond open? (Ok tt) (Err e)) (Ok tt)) (Ok tt)
-  → cond reads open? true ≡ true
+    → cond reads open? true ≡ true
 open-by true true e h = refl
 open-by true false e h = let z : _≡_ {A = ℕ} 0 1 = cc in absurd (omega (arith, z))
 open-by false open? e h = refl
 
 module _ {C : Type 0} (content : ℕ → C) (s : Scene C) (low high word : ℕ) where
   pub refill-answer : (lower : MoveResult) (c : Cursor) → refillAsked s low high word ≡ Ok tt → fillsTo content s low high .answer ≡ Ok tt
-    → c ≡ fillsTo content s low high .cursor → lowerAnswer (s .meaning) (s .number) c word ≡ Ok tt
-    → Ok tt ≡ refillAnswer content s low high word
+      → c ≡ fillsTo content s low high .cursor → lowerAnswer (s .meaning) (s .number) c word ≡ Ok tt
+      → Ok tt ≡ refillAnswer content s low high word
   unfolding refillAnswer
   refill-answer lower c asked fills at went =
       rw (asked, fills, ← at, went) refl
 
   pub refill-after : (c d : Cursor) (stack : ContextRecord) (counts : Counts) (number : ℕ) (file : List (Slot C))
-    → refillAsked s low high word ≡ Ok tt → fillsTo content s low high .answer ≡ Ok tt
-    → c ≡ fillsTo content s low high .cursor → lowerAnswer (s .meaning) (s .number) c word ≡ Ok tt
-    → d ≡ cond (lowerOpen c (s .meaning) word) (lowered (s .meaning) c word) c
-    → stack ≡ withMoves (s .stack) d → counts ≡ d .counts → number ≡ s .number → file ≡ fillsTo content s low high .file
-    → _≡_ {A = Scene C} (record { number = number; stack = stack; counts = counts; file = file; meaning = s .meaning }) (refillAfter content s low high word)
+      → refillAsked s low high word ≡ Ok tt → fillsTo content s low high .answer ≡ Ok tt
+      → c ≡ fillsTo content s low high .cursor → lowerAnswer (s .meaning) (s .number) c word ≡ Ok tt
+      → d ≡ cond (lowerOpen c (s .meaning) word) (lowered (s .meaning) c word) c
+      → stack ≡ withMoves (s .stack) d → counts ≡ d .counts → number ≡ s .number → file ≡ fillsTo content s low high .file
+      → _≡_ {A = Scene C} (record { number = number; stack = stack; counts = counts; file = file; meaning = s .meaning }) (refillAfter content s low high word)
   unfolding refillAfter
   refill-after c d stack counts number file asked fills at went ed es ec en ef =
       let o : lowerOpen c (s .meaning) word ≡ true = open-by (lowerReads c word) _ _ went in

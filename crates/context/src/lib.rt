@@ -5,6 +5,7 @@ ghost use Prim.Native.Nat.{ℕ, _+_, _-_, _*_, _/_, _%_, _^_, _<_, _≤_};
 ghost use Rattle.std.specs.declared.option.Option.the-variants.{Some, None};
 ghost use Rattle.frame.specs.Markers.{lawfulWord};
 ghost use Rattle.frame.specs.Fields.{PartsOfWord};
+ghost use Rattle.context.specs.Regions.{wellFormed, begun};
 
 mod frames;
 mod record;
@@ -27,7 +28,9 @@ pub use sound::Context;
 impl Region {
     // The region, where it is well formed in a store of `length` words: both numbers multiples of 64, at least 64
     // words, and all of them in the store.
-    pub fn new(start: u64, size: u64, length: u64) -> Option<Region> {
+    pub fn new(start: u64, size: u64, length: u64) -> Option<Region>
+        ensures { λ r. ⌜ elim r [ Some g ↦ (wellFormed start size length ≡ true) × (g .start ≡ start) × (g .size ≡ size) | None ↦ wellFormed start size length ≡ false ] ⌝ }
+    {
         if start > LONGEST_STORE
             || size > LONGEST_STORE
             || start % 64 != 0
@@ -36,7 +39,7 @@ impl Region {
         {
             return None;
         }
-        if start + size > length || length > LONGEST_STORE {
+        if start + size > length.min(LONGEST_STORE) {
             return None;
         }
         Some(Region {
@@ -48,7 +51,11 @@ impl Region {
 
 impl Context {
     // A new context: nothing on its stack, all markers empty.
-    pub fn begin(region: Region, number: u64, counts: Counts) -> Context {
+    pub fn begin(region: Region, number: u64, counts: Counts) -> Context
+        ensures stack { λ r. ⌜ r .stack ≡ begun (region .start) (region .size) ⌝ }
+        ensures number { λ r. ⌜ r .number ≡ number ⌝ }
+        ensures counts { λ r. ⌜ r .counts ≡ counts ⌝ }
+    {
         Context {
             stack: ContextRecord {
                 status: Status::Current,

@@ -47,7 +47,12 @@ impl Context {
     }
 
     // Asks about the word of a lowering, where BSPSTORE is lowered to a collection: that word is the lowest.
-    fn ask_low<K: Kind, S: Store>(&self, slots: &[Slot<K>], store: &S, word: u64) -> Result<(), MoveFault>
+    fn ask_low<K: Kind, S: Store>(
+        &self,
+        slots: &[Slot<K>],
+        store: &S,
+        word: u64,
+    ) -> Result<(), MoveFault>
         ensures { λ r. ⌜ r ≡ lowFirst (seen (now (self .entry)) (now (slots .entry)) (S·Store .meaning (now (store .entry)))) word ⌝ }
     {
         if is_collection(word) {
@@ -172,7 +177,7 @@ impl Context {
             (returnBase (now (self .entry) .stack)) (now (self .entry) .stack .previous) ⌝ }
         ensures after { λ _. ⌜ seen (now (self .exit)) (now (slots .exit)) (S·Store .meaning (now (store .exit)))
             ≡ backTo zeroContent (K·Kind .imageOf) (K·Kind .contentOf) (seen (now (self .entry)) (now (slots .entry)) (S·Store .meaning (now (store .entry))))
-              (returnBase (now (self .entry) .stack)) (now (self .entry) .stack .previous) ⌝ }
+            (returnBase (now (self .entry) .stack)) (now (self .entry) .stack .previous) ⌝ }
     {
         let base = self.return_base()?;
         self.go_back(slots, store, base, self.stack.previous)?;
@@ -202,7 +207,7 @@ impl Context {
             (restoreBase (now (self .entry) .stack)) (now (self .entry) .stack .saved) ⌝ }
         ensures after { λ _. ⌜ seen (now (self .exit)) (now (slots .exit)) (S·Store .meaning (now (store .exit)))
             ≡ backTo zeroContent (K·Kind .imageOf) (K·Kind .contentOf) (seen (now (self .entry)) (now (slots .entry)) (S·Store .meaning (now (store .entry))))
-              (restoreBase (now (self .entry) .stack)) (now (self .entry) .stack .saved) ⌝ }
+            (restoreBase (now (self .entry) .stack)) (now (self .entry) .stack .saved) ⌝ }
     {
         let base = self.restore_base()?;
         self.go_back(slots, store, base, self.stack.saved)?;

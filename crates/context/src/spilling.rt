@@ -49,7 +49,7 @@ impl Context {
             ≡ runTo zeroContent (K·Kind .imageOf) (seen (now (self .entry)) (now (slots .entry)) (S·Store .meaning (now (store .entry)))) end .answer ⌝ }
         ensures after { λ _. ⌜ seen (now (self .exit)) (now (slots .entry)) (S·Store .meaning (now (store .exit)))
             ≡ spilled (seen (now (self .entry)) (now (slots .entry)) (S·Store .meaning (now (store .entry))))
-              (runTo zeroContent (K·Kind .imageOf) (seen (now (self .entry)) (now (slots .entry)) (S·Store .meaning (now (store .entry)))) end) ⌝ }
+            (runTo zeroContent (K·Kind .imageOf) (seen (now (self .entry)) (now (slots .entry)) (S·Store .meaning (now (store .entry)))) end) ⌝ }
     {
         let mut at = self.stack.cursor(self.counts);
         let moved = spill_until(&mut at, slots, store, end, self.number);
@@ -110,7 +110,7 @@ impl Context {
             ≡ growRun zeroContent (K·Kind .imageOf) (seen (now (self .entry)) (now (slots .entry)) (S·Store .meaning (now (store .entry)))) word .answer ⌝ }
         ensures after { λ _. ⌜ seen (now (self .exit)) (now (slots .exit)) (S·Store .meaning (now (store .exit)))
             ≡ grown zeroContent (seen (now (self .entry)) (now (slots .entry)) (S·Store .meaning (now (store .entry))))
-              (growRun zeroContent (K·Kind .imageOf) (seen (now (self .entry)) (now (slots .entry)) (S·Store .meaning (now (store .entry)))) word) word ⌝ }
+            (growRun zeroContent (K·Kind .imageOf) (seen (now (self .entry)) (now (slots .entry)) (S·Store .meaning (now (store .entry)))) word) word ⌝ }
     {
         let old_top = self.top();
         let top = self.stack.base + marker_of(word).sof();
@@ -152,7 +152,7 @@ impl Context {
             ≡ flushAnswer zeroContent (K·Kind .imageOf) (seen (now (self .entry)) (now (slots .entry)) (S·Store .meaning (now (store .entry)))) ⌝ }
         ensures after { λ _. ⌜ seen (now (self .exit)) (now (slots .entry)) (S·Store .meaning (now (store .exit)))
             ≡ spilled (seen (now (self .entry)) (now (slots .entry)) (S·Store .meaning (now (store .entry))))
-              (flushRun zeroContent (K·Kind .imageOf) (seen (now (self .entry)) (now (slots .entry)) (S·Store .meaning (now (store .entry))))) ⌝ }
+            (flushRun zeroContent (K·Kind .imageOf) (seen (now (self .entry)) (now (slots .entry)) (S·Store .meaning (now (store .entry))))) ⌝ }
     {
         let bsp = self.stack.bsp();
         self.spill_to(slots, store, bsp)?;
@@ -188,8 +188,8 @@ impl Context {
             ≡ earlyFillRun (K·Kind .contentOf) (seen (now (self .entry)) (now (slots .entry)) (S·Store .meaning (now (store .entry)))) .answer ⌝ }
         ensures after { λ _. ⌜ seen (now (self .exit)) (now (slots .exit)) (S·Store .meaning (now (store .entry)))
             ≡ ifMoved (earlyFillRun (K·Kind .contentOf) (seen (now (self .entry)) (now (slots .entry)) (S·Store .meaning (now (store .entry)))) .answer)
-              (earlyFilled (seen (now (self .entry)) (now (slots .entry)) (S·Store .meaning (now (store .entry)))) (earlyFillRun (K·Kind .contentOf) (seen (now (self .entry)) (now (slots .entry)) (S·Store .meaning (now (store .entry))))))
-              (withFile (seen (now (self .entry)) (now (slots .entry)) (S·Store .meaning (now (store .entry)))) (earlyFillRun (K·Kind .contentOf) (seen (now (self .entry)) (now (slots .entry)) (S·Store .meaning (now (store .entry)))) .file)) ⌝ }
+            (earlyFilled (seen (now (self .entry)) (now (slots .entry)) (S·Store .meaning (now (store .entry)))) (earlyFillRun (K·Kind .contentOf) (seen (now (self .entry)) (now (slots .entry)) (S·Store .meaning (now (store .entry))))))
+            (withFile (seen (now (self .entry)) (now (slots .entry)) (S·Store .meaning (now (store .entry)))) (earlyFillRun (K·Kind .contentOf) (seen (now (self .entry)) (now (slots .entry)) (S·Store .meaning (now (store .entry)))) .file)) ⌝ }
     {
         let lo = self.stack.lo;
         let mut at = self.stack.cursor(self.counts);
