@@ -1,1 +1,3 @@
+pub mod Hosts
+pub mod Rules
 pub mod Tables

@@ -1,12 +1,18 @@
 // Are an instruction's operands in range?
+ghost use mathlib.Core.Path.{_≡_};
+ghost use Rattle.engine.specs.Rules.{isRegister, inRange};
 use super::instructions::Instruction;
 
 // A register of the stack: r32 to r127.
-fn is_register(register: u64) -> bool {
+fn is_register(register: u64) -> bool
+    ensures { λ r. ⌜ r ≡ isRegister register ⌝ }
+{
     register >= 32 && register <= 127
 }
 
-pub(crate) fn in_range(instruction: Instruction) -> bool {
+pub(crate) fn in_range(instruction: Instruction) -> bool
+    ensures { λ r. ⌜ r ≡ inRange instruction ⌝ }
+{
     match instruction {
         Instruction::Begin {
             context,
@@ -30,6 +36,19 @@ pub(crate) fn in_range(instruction: Instruction) -> bool {
         Instruction::Read { register } => is_register(register),
         Instruction::Load { words } => words <= 2047,
         Instruction::SetMode { mode } => mode <= 3,
-        _ => true,
+        Instruction::Call => true,
+        Instruction::Return => true,
+        Instruction::Cover => true,
+        Instruction::Rotate => true,
+        Instruction::ResetRotation => true,
+        Instruction::Previous => true,
+        Instruction::SetPrevious { word: _ } => true,
+        Instruction::Restore => true,
+        Instruction::Flush => true,
+        Instruction::EarlySpill => true,
+        Instruction::EarlyFill => true,
+        Instruction::Park => true,
+        Instruction::State => true,
+        Instruction::Counts => true,
     }
 }

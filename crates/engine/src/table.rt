@@ -1,5 +1,12 @@
 // Instructions on the table: begin, resume, retire, park; and the questions that alter nothing.
+ghost use mathlib.Core.Path.{_≡_};
 ghost use Prim.Native.Nat.{ℕ, _+_, _≤_, _<_};
+ghost use Rattle.context.specs.Scenes.{seen};
+ghost use Rattle.engine.specs.Tables.{recordAt};
+ghost use Rattle.engine.specs.Hosts.{withEntry, putBack, driving};
+ghost use Rattle.engine.specs.Rules.{liesApart, isClear, isEmptyEntry, isParkedEntry, beginAnswer, beginMachine};
+ghost use Rattle.engine.specs.Rules.{parkedAnswer, resumeMachine, retireMachine, parkMachine};
+ghost use Rattle.engine.specs.declared.instructions.Answer.the-variants.{Done};
 use super::instructions::Answer;
 use super::machine::EMPTY;
 use super::machine::State;
@@ -11,7 +18,9 @@ use context::Region;
 use context::Status;
 
 // Do a region and a context's lie apart?
-fn apart(region: Region, other: &ContextRecord) -> bool {
+fn apart(region: Region, other: &ContextRecord) -> bool
+    ensures { λ r. ⌜ r ≡ liesApart (region .start) (region .size) (now (other .entry)) ⌝ }
+{
     match other.status {
         Status::Empty => true,
         _ => {
@@ -23,7 +32,11 @@ fn apart(region: Region, other: &ContextRecord) -> bool {
 
 impl Engine {
     // The context that is driven.
-    pub(crate) fn context(&self) -> Context {
+    pub(crate) fn context(&self) -> Context
+        ensures stack { λ r. ⌜ r .stack ≡ recordAt (now (self .entry) .machine) (now (self .entry) .machine .current) ⌝ }
+        ensures number { λ r. ⌜ r .number ≡ now (self .entry) .machine .current ⌝ }
+        ensures counts { λ r. ⌜ r .counts ≡ now (self .entry) .machine .counts ⌝ }
+    {
         Context {
             stack: self.machine.table.entries[self.machine.current],
             number: self.machine.current as u64,
@@ -34,18 +47,23 @@ impl Engine {
     // Puts a context into the entry `k`; no other entry changes.
     fn replace(&mut self, k: usize, context: Context)
         requires { ⌜ k < 8 ⌝ }
+        ensures { λ _. ⌜ now (self .exit) .machine ≡ withEntry (now (self .entry) .machine) k (context .stack) ⌝ }
     {
         self.machine.table.entries[k] = context.stack;
     }
 
     // Puts the context that is driven back into its entry.
-    pub(crate) fn put(&mut self, context: Context) {
+    pub(crate) fn put(&mut self, context: Context)
+        ensures { λ _. ⌜ now (self .exit) .machine ≡ putBack (now (self .entry) .machine) (context .stack) (context .counts) ⌝ }
+    {
         self.replace(self.machine.current, context);
         self.machine.counts = context.counts;
     }
 
     // Is the region clear of every context that is not retired?
-    fn is_clear(&self, region: Region) -> bool {
+    fn is_clear(&self, region: Region) -> bool
+        ensures { λ r. ⌜ r ≡ isClear (region .start) (region .size) (now (self .entry) .machine .table .entries) ⌝ }
+    {
         for other in &self.machine.table.entries {
             if !apart(region, other) {
                 return false;
@@ -56,12 +74,14 @@ impl Engine {
 
     fn is_empty(&self, k: usize) -> bool
         requires { ⌜ k < 8 ⌝ }
+        ensures { λ r. ⌜ r ≡ isEmptyEntry (recordAt (now (self .entry) .machine) k .status) ⌝ }
     {
         matches!(self.machine.table.entries[k].status, Status::Empty)
     }
 
     fn is_parked(&self, k: usize) -> bool
         requires { ⌜ k < 8 ⌝ }
+        ensures { λ r. ⌜ r ≡ isParkedEntry (recordAt (now (self .entry) .machine) k .status) ⌝ }
     {
         matches!(self.machine.table.entries[k].status, Status::Parked)
     }
@@ -69,16 +89,18 @@ impl Engine {
     // Makes the entry `k` the one that is driven.
     fn drive(&mut self, k: usize, context: Context, state: State)
         requires { ⌜ k < 8 ⌝ }
+        ensures { λ _. ⌜ now (self .exit) .machine ≡ driving (now (self .entry) .machine) k (context .stack) state ⌝ }
     {
+        self.replace(k, context);
         self.machine.current = k;
-        self.put(context);
         self.machine.state = state;
     }
 
-    pub(crate) fn begin(&mut self, context: u64, start: u64, size: u64) -> Result<Answer, Refusal> {
-        if context > 7 {
-            return Err(Refusal::Operand);
-        }
+    pub(crate) fn begin(&mut self, context: u64, start: u64, size: u64) -> Result<Answer, Refusal>
+        requires { ⌜ context < 8 ⌝ }
+        ensures answer { λ r. ⌜ r ≡ beginAnswer (now (self .entry) .machine) context start size ⌝ }
+        ensures machine { λ _. ⌜ now (self .exit) .machine ≡ beginMachine (now (self .entry) .machine) context start size ⌝ }
+    {
         let k = context as usize;
         if !self.is_empty(k) {
             return Err(Refusal::Entry);
@@ -89,33 +111,42 @@ impl Engine {
         if !self.is_clear(region) {
             return Err(Refusal::Overlap);
         }
-        self.drive(
-            k,
-            Context::begin(region, context, self.machine.counts),
-            State::Running,
-        );
+        self.drive(k, Context::begin(region, context, self.machine.counts), State::Running);
         Ok(Answer::Done)
     }
 
-    pub(crate) fn resume(&mut self, context: u64) -> Result<Answer, Refusal> {
-        if context > 7 {
-            return Err(Refusal::Operand);
+    // The context of the entry `k`.
+    fn entry(&self, k: usize) -> Context
+        requires { ⌜ k < 8 ⌝ }
+        ensures { λ r. ⌜ r .stack ≡ recordAt (now (self .entry) .machine) k ⌝ }
+    {
+        Context {
+            stack: self.machine.table.entries[k],
+            number: k as u64,
+            counts: self.machine.counts,
         }
+    }
+
+    pub(crate) fn resume(&mut self, context: u64) -> Result<Answer, Refusal>
+        requires { ⌜ context < 8 ⌝ }
+        ensures answer { λ r. ⌜ r ≡ parkedAnswer (now (self .entry) .machine) context ⌝ }
+        ensures machine { λ _. ⌜ now (self .exit) .machine ≡ resumeMachine (now (self .entry) .machine) context ⌝ }
+    {
         let k = context as usize;
         if !self.is_parked(k) {
             return Err(Refusal::Entry);
         }
-        self.machine.current = k;
-        let mut resumed = self.context();
+        let mut resumed = self.entry(k);
         resumed.resume();
         self.drive(k, resumed, State::Flushed);
         Ok(Answer::Done)
     }
 
-    pub(crate) fn retire(&mut self, context: u64) -> Result<Answer, Refusal> {
-        if context > 7 {
-            return Err(Refusal::Operand);
-        }
+    pub(crate) fn retire(&mut self, context: u64) -> Result<Answer, Refusal>
+        requires { ⌜ context < 8 ⌝ }
+        ensures answer { λ r. ⌜ r ≡ parkedAnswer (now (self .entry) .machine) context ⌝ }
+        ensures machine { λ _. ⌜ now (self .exit) .machine ≡ retireMachine (now (self .entry) .machine) context ⌝ }
+    {
         let k = context as usize;
         if !self.is_parked(k) {
             return Err(Refusal::Entry);
@@ -129,7 +160,10 @@ impl Engine {
         Ok(Answer::Done)
     }
 
-    pub(crate) fn park(&mut self) -> Answer {
+    pub(crate) fn park(&mut self) -> Answer
+        ensures answer { λ r. ⌜ r ≡ Done ⌝ }
+        ensures machine { λ _. ⌜ now (self .exit) .machine ≡ parkMachine (now (self .entry) .machine) ⌝ }
+    {
         let mut context = self.context();
         context.park();
         self.put(context);

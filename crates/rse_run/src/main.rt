@@ -41,13 +41,12 @@ fn frames() -> [u64; 64] {
     frames
 }
 
-fn run(rt: &LibcRuntime) -> Result<(), AnyError> {
+fn run(rt: &LibcRuntime, memory: &mut [u64]) -> Result<(), AnyError> {
     let (input, cut) = read_input(rt)?;
     if cut {
         eprintln!(rt, "rse-run: the input was cut after {LONGEST_INPUT} bytes")?;
     }
-    let mut memory = [0u64; 4096];
-    let mut store = PagedStore::new(rt.alloc(), &mut memory, &frames())?;
+    let mut store = PagedStore::new(rt.alloc(), memory, &frames())?;
     let mut slots = [Slot {
         content: Word { value: 0 },
         nat: false,
@@ -60,5 +59,6 @@ fn run(rt: &LibcRuntime) -> Result<(), AnyError> {
 }
 
 fn main(rt: LibcRuntime) -> Result<(), AnyError> {
-    rt.report(run(&rt))
+    let mut memory = [0u64; 4096];
+    rt.report(run(&rt, &mut memory))
 }
