@@ -1,3 +1,4 @@
 pub mod Hosts
 pub mod Rules
+pub mod Running
 pub mod Tables

@@ -1,4 +1,6 @@
 // The instructions and their answers (docs/RULES.md, "Instructions").
+ghost use mathlib.Core.Path.{_≡_};
+ghost use Rattle.engine.specs.Running.{shownAs};
 use register::Kind;
 use register::Slot;
 
@@ -61,7 +63,9 @@ pub enum Answer {
 }
 
 // The answer of a read.
-pub(crate) fn shown<K: Kind>(register: Slot<K>) -> Answer {
+pub(crate) fn shown<K: Kind>(register: Slot<K>) -> Answer
+    ensures { λ r. ⌜ r ≡ shownAs (K·Kind .imageOf) register ⌝ }
+{
     Answer::Register {
         image: register.content.image(),
         nat: register.nat,

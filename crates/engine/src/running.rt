@@ -1,4 +1,20 @@
 // Instructions on the context that is driven: each takes it out of its entry, and puts it back.
+ghost use mathlib.Core.Path.{_≡_};
+ghost use mathlib.Core.Bool.{cond};
+ghost use lib.Dec.{eqb};
+ghost use Rattle.std.specs.declared.result.Result.the-variants.{Ok, Err};
+ghost use Rattle.context.specs.declared.refusals.Refusal.the-variants.{Mode};
+ghost use Rattle.context.specs.Frames.{called, covered, rotatedFrame, resetFrame, previousSet, previousAnswer, writeFile, copyFile, addFile};
+ghost use Rattle.context.specs.Frames.{readAnswer, oneRegister, twoRegisters, threeRegisters};
+ghost use Rattle.context.specs.Scenes.{spilled};
+ghost use Rattle.context.specs.Spilling.{allocAnswer, allocAfter, flushRun, flushAnswer, earlySpillAnswer, earlySpillAfter};
+ghost use Rattle.context.specs.Spilling.{earlyFillAnswer, earlyFillAfter};
+ghost use Rattle.context.specs.Returns.{returnBase, restoreBase, backTo, backToAnswer, loadAnswer, loadAfter};
+ghost use Rattle.engine.specs.declared.instructions.Answer.the-variants.{Done, Marker};
+ghost use Rattle.engine.specs.declared.machine.State.the-variants.{Running, Covered};
+ghost use Rattle.engine.specs.Tables.{recordAt};
+ghost use Rattle.engine.specs.Hosts.{hosted, sceneOf, lifted, inState};
+ghost use Rattle.engine.specs.Running.{answered, restacked, shownAs, flushedAs, leaves, afterFlush, spillsEarly, fillsEarly};
 use super::instructions::Answer;
 use super::instructions::shown;
 use super::machine::State;
@@ -17,14 +33,22 @@ impl Engine {
         sof: u64,
         sol: u64,
         sor: u64,
-    ) -> Result<Answer, Refusal> {
+    ) -> Result<Answer, Refusal>
+        ensures answer { λ r. ⌜ r ≡ answered Marker (allocAnswer zeroContent (K·Kind .imageOf) (sceneOf (hosted (now (self .entry) .machine) (now (slots .entry)) (S·Store .meaning (now (store .entry))))) sof sol sor) ⌝ }
+        ensures after { λ _. ⌜ hosted (now (self .exit) .machine) (now (slots .exit)) (S·Store .meaning (now (store .exit)))
+            ≡ lifted (hosted (now (self .entry) .machine) (now (slots .entry)) (S·Store .meaning (now (store .entry))))
+              (allocAfter zeroContent (K·Kind .imageOf) (sceneOf (hosted (now (self .entry) .machine) (now (slots .entry)) (S·Store .meaning (now (store .entry))))) sof sol sor) ⌝ }
+    {
         let mut context = self.context();
         let previous = context.alloc(slots, store, sof, sol, sor);
         self.put(context);
         Ok(Answer::Marker(previous?))
     }
 
-    pub(crate) fn call(&mut self) -> Answer {
+    pub(crate) fn call(&mut self) -> Answer
+        ensures answer { λ r. ⌜ r ≡ Done ⌝ }
+        ensures machine { λ _. ⌜ now (self .exit) .machine ≡ restacked (now (self .entry) .machine) called ⌝ }
+    {
         let mut context = self.context();
         context.call();
         self.put(context);
@@ -35,14 +59,24 @@ impl Engine {
         &mut self,
         slots: &mut [Slot<K>],
         store: &mut S,
-    ) -> Result<Answer, Refusal> {
+    ) -> Result<Answer, Refusal>
+        ensures answer { λ r. ⌜ r ≡ answered (λ _. Done) (backToAnswer zeroContent (K·Kind .imageOf) (K·Kind .contentOf)
+            (sceneOf (hosted (now (self .entry) .machine) (now (slots .entry)) (S·Store .meaning (now (store .entry))))) (returnBase (recordAt (now (self .entry) .machine) (now (self .entry) .machine .current))) ((recordAt (now (self .entry) .machine) (now (self .entry) .machine .current)) .previous)) ⌝ }
+        ensures after { λ _. ⌜ hosted (now (self .exit) .machine) (now (slots .exit)) (S·Store .meaning (now (store .exit)))
+            ≡ lifted (hosted (now (self .entry) .machine) (now (slots .entry)) (S·Store .meaning (now (store .entry)))) (backTo zeroContent (K·Kind .imageOf) (K·Kind .contentOf)
+              (sceneOf (hosted (now (self .entry) .machine) (now (slots .entry)) (S·Store .meaning (now (store .entry))))) (returnBase (recordAt (now (self .entry) .machine) (now (self .entry) .machine .current))) ((recordAt (now (self .entry) .machine) (now (self .entry) .machine .current)) .previous)) ⌝ }
+    {
         let mut context = self.context();
-        context.return_to_caller(slots, store)?;
+        let returned = context.return_to_caller(slots, store);
         self.put(context);
+        returned?;
         Ok(Answer::Done)
     }
 
-    pub(crate) fn cover(&mut self) -> Answer {
+    pub(crate) fn cover(&mut self) -> Answer
+        ensures answer { λ r. ⌜ r ≡ Done ⌝ }
+        ensures machine { λ _. ⌜ now (self .exit) .machine ≡ inState (restacked (now (self .entry) .machine) covered) Covered ⌝ }
+    {
         let mut context = self.context();
         context.cover();
         self.put(context);
@@ -56,7 +90,11 @@ impl Engine {
         register: u64,
         word: u64,
         nat: u64,
-    ) -> Result<Answer, Refusal> {
+    ) -> Result<Answer, Refusal>
+        ensures answer { λ r. ⌜ r ≡ answered (λ _. Done) (oneRegister (recordAt (now (self .entry) .machine) (now (self .entry) .machine .current)) register) ⌝ }
+        ensures file { λ _. ⌜ now (slots .exit)
+            ≡ writeFile (K·Kind .contentOf) (recordAt (now (self .entry) .machine) (now (self .entry) .machine .current)) (now (slots .entry)) register word (eqb nat 1) ⌝ }
+    {
         self.context().write(slots, register, word, nat == 1)?;
         Ok(Answer::Done)
     }
@@ -66,7 +104,10 @@ impl Engine {
         slots: &mut [Slot<K>],
         target: u64,
         source: u64,
-    ) -> Result<Answer, Refusal> {
+    ) -> Result<Answer, Refusal>
+        ensures answer { λ r. ⌜ r ≡ answered (λ _. Done) (twoRegisters (recordAt (now (self .entry) .machine) (now (self .entry) .machine .current)) target source) ⌝ }
+        ensures file { λ _. ⌜ now (slots .exit) ≡ copyFile zeroContent (recordAt (now (self .entry) .machine) (now (self .entry) .machine .current)) (now (slots .entry)) target source ⌝ }
+    {
         self.context().copy(slots, target, source)?;
         Ok(Answer::Done)
     }
@@ -77,7 +118,11 @@ impl Engine {
         target: u64,
         left: u64,
         right: u64,
-    ) -> Result<Answer, Refusal> {
+    ) -> Result<Answer, Refusal>
+        ensures answer { λ r. ⌜ r ≡ answered (λ _. Done) (threeRegisters (recordAt (now (self .entry) .machine) (now (self .entry) .machine .current)) target left right) ⌝ }
+        ensures file { λ _. ⌜ now (slots .exit)
+            ≡ addFile zeroContent (K·Kind .sumOf) (recordAt (now (self .entry) .machine) (now (self .entry) .machine .current)) (now (slots .entry)) target left right ⌝ }
+    {
         self.context().add(slots, target, left, right)?;
         Ok(Answer::Done)
     }
@@ -86,32 +131,46 @@ impl Engine {
         &self,
         slots: &[Slot<K>],
         register: u64,
-    ) -> Result<Answer, Refusal> {
+    ) -> Result<Answer, Refusal>
+        ensures { λ r. ⌜ r ≡ answered (shownAs (K·Kind .imageOf)) (readAnswer zeroContent (recordAt (now (self .entry) .machine) (now (self .entry) .machine .current)) (now (slots .entry)) register) ⌝ }
+    {
         Ok(shown(self.context().read(slots, register)?))
     }
 
-    pub(crate) fn rotate(&mut self) -> Answer {
+    pub(crate) fn rotate(&mut self) -> Answer
+        ensures answer { λ r. ⌜ r ≡ Done ⌝ }
+        ensures machine { λ _. ⌜ now (self .exit) .machine ≡ restacked (now (self .entry) .machine) rotatedFrame ⌝ }
+    {
         let mut context = self.context();
         context.rotate();
         self.put(context);
         Answer::Done
     }
 
-    pub(crate) fn reset_rotation(&mut self) -> Answer {
+    pub(crate) fn reset_rotation(&mut self) -> Answer
+        ensures answer { λ r. ⌜ r ≡ Done ⌝ }
+        ensures machine { λ _. ⌜ now (self .exit) .machine ≡ restacked (now (self .entry) .machine) resetFrame ⌝ }
+    {
         let mut context = self.context();
         context.reset_rotation();
         self.put(context);
         Answer::Done
     }
 
-    pub(crate) fn previous(&self) -> Answer {
+    pub(crate) fn previous(&self) -> Answer
+        ensures { λ r. ⌜ r ≡ Marker ((recordAt (now (self .entry) .machine) (now (self .entry) .machine .current)) .previous) ⌝ }
+    {
         Answer::Marker(self.context().stack.previous)
     }
 
-    pub(crate) fn set_previous(&mut self, word: u64) -> Result<Answer, Refusal> {
+    pub(crate) fn set_previous(&mut self, word: u64) -> Result<Answer, Refusal>
+        ensures answer { λ r. ⌜ r ≡ answered (λ _. Done) (previousAnswer word) ⌝ }
+        ensures machine { λ _. ⌜ now (self .exit) .machine ≡ restacked (now (self .entry) .machine) (λ r. previousSet r word) ⌝ }
+    {
         let mut context = self.context();
-        context.set_previous(word)?;
+        let answer = context.set_previous(word);
         self.put(context);
+        answer?;
         Ok(Answer::Done)
     }
 
@@ -119,10 +178,17 @@ impl Engine {
         &mut self,
         slots: &mut [Slot<K>],
         store: &mut S,
-    ) -> Result<Answer, Refusal> {
+    ) -> Result<Answer, Refusal>
+        ensures answer { λ r. ⌜ r ≡ answered (λ _. Done) (backToAnswer zeroContent (K·Kind .imageOf) (K·Kind .contentOf)
+            (sceneOf (hosted (now (self .entry) .machine) (now (slots .entry)) (S·Store .meaning (now (store .entry))))) (restoreBase (recordAt (now (self .entry) .machine) (now (self .entry) .machine .current))) ((recordAt (now (self .entry) .machine) (now (self .entry) .machine .current)) .saved)) ⌝ }
+        ensures after { λ r. ⌜ hosted (now (self .exit) .machine) (now (slots .exit)) (S·Store .meaning (now (store .exit)))
+            ≡ leaves (hosted (now (self .entry) .machine) (now (slots .entry)) (S·Store .meaning (now (store .entry)))) (backTo zeroContent (K·Kind .imageOf) (K·Kind .contentOf)
+              (sceneOf (hosted (now (self .entry) .machine) (now (slots .entry)) (S·Store .meaning (now (store .entry))))) (restoreBase (recordAt (now (self .entry) .machine) (now (self .entry) .machine .current))) ((recordAt (now (self .entry) .machine) (now (self .entry) .machine .current)) .saved)) r Running ⌝ }
+    {
         let mut context = self.context();
-        context.restore(slots, store)?;
+        let restored = context.restore(slots, store);
         self.put(context);
+        restored?;
         self.machine.state = State::Running;
         Ok(Answer::Done)
     }
@@ -132,14 +198,17 @@ impl Engine {
         &mut self,
         slots: &[Slot<K>],
         store: &mut S,
-    ) -> Result<Answer, Refusal> {
+    ) -> Result<Answer, Refusal>
+        ensures answer { λ r. ⌜ r ≡ answered flushedAs (flushAnswer zeroContent (K·Kind .imageOf) (sceneOf (hosted (now (self .entry) .machine) (now (slots .entry)) (S·Store .meaning (now (store .entry)))))) ⌝ }
+        ensures after { λ r. ⌜ hosted (now (self .exit) .machine) (now (slots .entry)) (S·Store .meaning (now (store .exit)))
+            ≡ leaves (hosted (now (self .entry) .machine) (now (slots .entry)) (S·Store .meaning (now (store .entry)))) (spilled (sceneOf (hosted (now (self .entry) .machine) (now (slots .entry)) (S·Store .meaning (now (store .entry)))))
+              (flushRun zeroContent (K·Kind .imageOf) (sceneOf (hosted (now (self .entry) .machine) (now (slots .entry)) (S·Store .meaning (now (store .entry))))))) r (afterFlush (now (self .entry) .machine .state)) ⌝ }
+    {
         let mut context = self.context();
         let flushed = context.flush(slots, store);
         self.put(context);
         let (bsp, rnat) = flushed?;
-        if matches!(self.machine.state, State::Covered) {
-            self.machine.state = State::Flushed;
-        }
+        self.machine.state = after_flush(self.machine.state);
         Ok(Answer::Flushed { bsp, rnat })
     }
 
@@ -148,13 +217,20 @@ impl Engine {
         &mut self,
         slots: &[Slot<K>],
         store: &mut S,
-    ) -> Result<Answer, Refusal> {
-        if self.machine.mode % 2 == 0 {
+    ) -> Result<Answer, Refusal>
+        ensures answer { λ r. ⌜ r ≡ cond (spillsEarly (hosted (now (self .entry) .machine) (now (slots .entry)) (S·Store .meaning (now (store .entry)))))
+            (answered (λ _. Done) (earlySpillAnswer zeroContent (K·Kind .imageOf) (sceneOf (hosted (now (self .entry) .machine) (now (slots .entry)) (S·Store .meaning (now (store .entry))))))) (Err Mode) ⌝ }
+        ensures after { λ _. ⌜ hosted (now (self .exit) .machine) (now (slots .entry)) (S·Store .meaning (now (store .exit)))
+            ≡ cond (spillsEarly (hosted (now (self .entry) .machine) (now (slots .entry)) (S·Store .meaning (now (store .entry))))) (lifted (hosted (now (self .entry) .machine) (now (slots .entry)) (S·Store .meaning (now (store .entry))))
+              (earlySpillAfter zeroContent (K·Kind .imageOf) (sceneOf (hosted (now (self .entry) .machine) (now (slots .entry)) (S·Store .meaning (now (store .entry))))))) (hosted (now (self .entry) .machine) (now (slots .entry)) (S·Store .meaning (now (store .entry)))) ⌝ }
+    {
+        if self.machine.mode % 2 != 1 {
             return Err(Refusal::Mode);
         }
         let mut context = self.context();
-        context.early_spill(slots, store)?;
+        let spilled = context.early_spill(slots, store);
         self.put(context);
+        spilled?;
         Ok(Answer::Done)
     }
 
@@ -163,13 +239,20 @@ impl Engine {
         &mut self,
         slots: &mut [Slot<K>],
         store: &S,
-    ) -> Result<Answer, Refusal> {
-        if self.machine.mode / 2 % 2 == 0 {
+    ) -> Result<Answer, Refusal>
+        ensures answer { λ r. ⌜ r ≡ cond (fillsEarly (hosted (now (self .entry) .machine) (now (slots .entry)) (S·Store .meaning (now (store .entry)))))
+            (answered (λ _. Done) (earlyFillAnswer (K·Kind .contentOf) (sceneOf (hosted (now (self .entry) .machine) (now (slots .entry)) (S·Store .meaning (now (store .entry))))))) (Err Mode) ⌝ }
+        ensures after { λ _. ⌜ hosted (now (self .exit) .machine) (now (slots .exit)) (S·Store .meaning (now (store .entry)))
+            ≡ cond (fillsEarly (hosted (now (self .entry) .machine) (now (slots .entry)) (S·Store .meaning (now (store .entry))))) (lifted (hosted (now (self .entry) .machine) (now (slots .entry)) (S·Store .meaning (now (store .entry))))
+              (earlyFillAfter (K·Kind .contentOf) (sceneOf (hosted (now (self .entry) .machine) (now (slots .entry)) (S·Store .meaning (now (store .entry))))))) (hosted (now (self .entry) .machine) (now (slots .entry)) (S·Store .meaning (now (store .entry)))) ⌝ }
+    {
+        if self.machine.mode / 2 % 2 != 1 {
             return Err(Refusal::Mode);
         }
         let mut context = self.context();
-        context.early_fill(slots, store)?;
+        let filled = context.early_fill(slots, store);
         self.put(context);
+        filled?;
         Ok(Answer::Done)
     }
 
@@ -178,11 +261,27 @@ impl Engine {
         slots: &mut [Slot<K>],
         store: &S,
         words: u64,
-    ) -> Result<Answer, Refusal> {
+    ) -> Result<Answer, Refusal>
+        ensures answer { λ r. ⌜ r ≡ answered (λ _. Done) (loadAnswer (K·Kind .contentOf) (sceneOf (hosted (now (self .entry) .machine) (now (slots .entry)) (S·Store .meaning (now (store .entry))))) words) ⌝ }
+        ensures after { λ r. ⌜ hosted (now (self .exit) .machine) (now (slots .exit)) (S·Store .meaning (now (store .entry)))
+            ≡ leaves (hosted (now (self .entry) .machine) (now (slots .entry)) (S·Store .meaning (now (store .entry))))
+              (loadAfter (K·Kind .contentOf) (sceneOf (hosted (now (self .entry) .machine) (now (slots .entry)) (S·Store .meaning (now (store .entry))))) words) r Covered ⌝ }
+    {
         let mut context = self.context();
-        context.load(slots, store, words)?;
+        let loaded = context.load(slots, store, words);
         self.put(context);
+        loaded?;
         self.machine.state = State::Covered;
         Ok(Answer::Done)
+    }
+}
+
+// A covered context is flushed after a flush, a running one goes on.
+fn after_flush(state: State) -> State
+    ensures { λ r. ⌜ r ≡ afterFlush state ⌝ }
+{
+    match state {
+        State::Covered => State::Flushed,
+        _ => state,
     }
 }
