@@ -3,10 +3,12 @@ ghost use mathlib.Core.Path.{_≡_};
 ghost use Prim.Native.Nat.{ℕ, _+_, _≤_, _<_};
 ghost use Rattle.context.specs.Scenes.{seen};
 ghost use Rattle.engine.specs.Tables.{recordAt};
-ghost use Rattle.engine.specs.Hosts.{withEntry, putBack, driving};
+ghost use Rattle.engine.specs.Hosts.{withEntry, putBack, driving, inMode};
 ghost use Rattle.engine.specs.Rules.{liesApart, isClear, isEmptyEntry, isParkedEntry, beginAnswer, beginMachine};
 ghost use Rattle.engine.specs.Rules.{parkedAnswer, resumeMachine, retireMachine, parkMachine};
-ghost use Rattle.engine.specs.declared.instructions.Answer.the-variants.{Done};
+ghost use Rattle.engine.specs.declared.instructions.Answer.the-variants.{Done, State as StateAnswer};
+ghost use Rattle.context.specs.Records.{bspOf};
+ghost use Rattle.engine.specs.Steps.{stateOf, countsOf, driven};
 use super::instructions::Answer;
 use super::machine::EMPTY;
 use super::machine::State;
@@ -171,25 +173,21 @@ impl Engine {
         Answer::Done
     }
 
-    pub(crate) fn set_mode(&mut self, mode: u64) -> Answer {
+    pub(crate) fn set_mode(&mut self, mode: u64) -> Answer
+        ensures answer { λ r. ⌜ r ≡ Done ⌝ }
+        ensures machine { λ _. ⌜ now (self .exit) .machine ≡ inMode (now (self .entry) .machine) mode ⌝ }
+    {
         self.machine.mode = mode;
         Answer::Done
     }
 
-    // State, context, base, marker word and BSP; all 0 in idle.
-    pub(crate) fn state(&self) -> Answer {
-        if matches!(self.machine.state, State::Idle) {
-            return Answer::State {
-                state: 0,
-                context: 0,
-                base: 0,
-                marker: 0,
-                bsp: 0,
-            };
-        }
+    // What the question of the state shows of the context that is driven.
+    fn shown(&self, state: u64) -> Answer
+        ensures { λ r. ⌜ r ≡ StateAnswer state (now (self .entry) .machine .current) (driven (now (self .entry) .machine) .base) (driven (now (self .entry) .machine) .marker) (bspOf (driven (now (self .entry) .machine))) ⌝ }
+    {
         let context = self.context();
         Answer::State {
-            state: self.machine.state as u64,
+            state,
             context: context.number,
             base: u64::from(context.stack.base),
             marker: context.stack.marker,
@@ -197,7 +195,27 @@ impl Engine {
         }
     }
 
-    pub(crate) fn counts(&self) -> Answer {
+    // State, context, base, marker word and BSP; all 0 in idle.
+    pub(crate) fn state(&self) -> Answer
+        ensures { λ r. ⌜ r ≡ stateOf (now (self .entry) .machine) ⌝ }
+    {
+        match self.machine.state {
+            State::Idle => Answer::State {
+                state: 0,
+                context: 0,
+                base: 0,
+                marker: 0,
+                bsp: 0,
+            },
+            State::Running => self.shown(1),
+            State::Covered => self.shown(2),
+            State::Flushed => self.shown(3),
+        }
+    }
+
+    pub(crate) fn counts(&self) -> Answer
+        ensures { λ r. ⌜ r ≡ countsOf (now (self .entry) .machine) ⌝ }
+    {
         Answer::Counts {
             written: self.machine.counts.written,
             read: self.machine.counts.read,
