@@ -6,6 +6,7 @@ use lib.Dec.{eqb}
 use lib.ListN.{length}
 use Rattle.std.specs.declared.result.Result.{Result}
 use Rattle.std.specs.declared.result.Result.the-variants.{Ok, Err}
+use Rattle.register.specs.declared.Slot.{Slot}
 use Rattle.context.specs.declared.record.ContextRecord.{ContextRecord}
 use Rattle.context.specs.declared.refusals.Refusal.{Refusal}
 use Rattle.context.specs.declared.refusals.Refusal.the-variants.{Operand, State as WrongState, Mode, Host as WrongHost}
@@ -76,3 +77,113 @@ countsOf m = CountsAnswer (m .counts .written) (m .counts .read)
 -- the record of the context that is driven
 abbrev pub driven : Machine → ContextRecord
 driven m = recordAt m (m .current)
+
+module _ {C : Type 0} where
+  -- another file
+  abbrev pub filed : Host C → List (Slot C) → Host C
+  filed h file = record { machine = h .machine; file = file; meaning = h .meaning }
+
+  -- what an instruction answers in its states; in any other it is refused
+  abbrev pub ruled : C → (C → ℕ) → (ℕ → C) → Host C → Instruction → Result Answer Refusal
+  ruled nought image content h (Begin k s n) = inIdle (h .machine .state) (beginAnswer (h .machine) k s n) (Err WrongState)
+  ruled nought image content h (Resume k) = inIdle (h .machine .state) (parkedAnswer (h .machine) k) (Err WrongState)
+  ruled nought image content h (Retire k) = inIdle (h .machine .state) (parkedAnswer (h .machine) k) (Err WrongState)
+  ruled nought image content h (Alloc sof sol sor) =
+      inRunning (h .machine .state) (answered Marker (allocAnswer nought image (sceneOf h) sof sol sor)) (Err WrongState)
+  ruled nought image content h Call = inRunning (h .machine .state) (Ok Done) (Err WrongState)
+  ruled nought image content h Return =
+      inRunning (h .machine .state)
+      (answered (λ _. Done) (backToAnswer nought image content (sceneOf h) (returnBase (driven (h .machine))) (driven (h .machine) .previous)))
+      (Err WrongState)
+  ruled nought image content h Cover = inRunning (h .machine .state) (Ok Done) (Err WrongState)
+  ruled nought image content h (Write r w nat) =
+      inRunning (h .machine .state) (answered (λ _. Done) (oneRegister (driven (h .machine)) r)) (Err WrongState)
+  ruled nought image content h (Copy r s) =
+      inRunning (h .machine .state) (answered (λ _. Done) (twoRegisters (driven (h .machine)) r s)) (Err WrongState)
+  ruled nought image content h (Add r s q) =
+      inRunning (h .machine .state) (answered (λ _. Done) (threeRegisters (driven (h .machine)) r s q)) (Err WrongState)
+  ruled nought image content h (Read r) =
+      inRunning (h .machine .state) (answered (shownAs image) (readAnswer nought (driven (h .machine)) (h .file) r)) (Err WrongState)
+  ruled nought image content h Rotate = inRunning (h .machine .state) (Ok Done) (Err WrongState)
+  ruled nought image content h ResetRotation = inRunning (h .machine .state) (Ok Done) (Err WrongState)
+  ruled nought image content h Previous = inRunning (h .machine .state) (Ok (Marker (driven (h .machine) .previous))) (Err WrongState)
+  ruled nought image content h (SetPrevious w) = inRunning (h .machine .state) (answered (λ _. Done) (previousAnswer w)) (Err WrongState)
+  ruled nought image content h Restore =
+      inCoveredOrFlushed (h .machine .state)
+      (answered (λ _. Done) (backToAnswer nought image content (sceneOf h) (restoreBase (driven (h .machine))) (driven (h .machine) .saved)))
+      (Err WrongState)
+  ruled nought image content h Flush =
+      inRunningOrCovered (h .machine .state) (answered flushedAs (flushAnswer nought image (sceneOf h))) (Err WrongState)
+  ruled nought image content h EarlySpill =
+      inRunningOrCovered (h .machine .state)
+      (cond (spillsEarly h) (answered (λ _. Done) (earlySpillAnswer nought image (sceneOf h))) (Err Mode))
+      (Err WrongState)
+  ruled nought image content h EarlyFill =
+      inRunningOrCovered (h .machine .state)
+      (cond (fillsEarly h) (answered (λ _. Done) (earlyFillAnswer content (sceneOf h))) (Err Mode))
+      (Err WrongState)
+  ruled nought image content h (Load d) =
+      inFlushed (h .machine .state) (answered (λ _. Done) (loadAnswer content (sceneOf h) d)) (Err WrongState)
+  ruled nought image content h Park = inFlushed (h .machine .state) (Ok Done) (Err WrongState)
+  ruled nought image content h (SetMode m) = Ok Done
+  ruled nought image content h AskState = Ok (stateOf (h .machine))
+  ruled nought image content h AskCounts = Ok (countsOf (h .machine))
+
+  -- what it leaves
+  abbrev pub ruledAfter : C → (C → ℕ) → (ℕ → C) → (C → C → C) → Host C → Instruction → Host C
+  ruledAfter nought image content sum h (Begin k s n) = inIdle (h .machine .state) (withMachine h (beginMachine (h .machine) k s n)) h
+  ruledAfter nought image content sum h (Resume k) = inIdle (h .machine .state) (withMachine h (resumeMachine (h .machine) k)) h
+  ruledAfter nought image content sum h (Retire k) = inIdle (h .machine .state) (withMachine h (retireMachine (h .machine) k)) h
+  ruledAfter nought image content sum h (Alloc sof sol sor) =
+      inRunning (h .machine .state) (lifted h (allocAfter nought image (sceneOf h) sof sol sor)) h
+  ruledAfter nought image content sum h Call = inRunning (h .machine .state) (withMachine h (restacked (h .machine) called)) h
+  ruledAfter nought image content sum h Return =
+      inRunning (h .machine .state)
+      (lifted h (backTo nought image content (sceneOf h) (returnBase (driven (h .machine))) (driven (h .machine) .previous)))
+      h
+  ruledAfter nought image content sum h Cover =
+      inRunning (h .machine .state) (withMachine h (inState (restacked (h .machine) covered) Covered)) h
+  ruledAfter nought image content sum h (Write r w nat) =
+      inRunning (h .machine .state) (filed h (writeFile content (driven (h .machine)) (h .file) r w (eqb nat 1))) h
+  ruledAfter nought image content sum h (Copy r s) =
+      inRunning (h .machine .state) (filed h (copyFile nought (driven (h .machine)) (h .file) r s)) h
+  ruledAfter nought image content sum h (Add r s q) =
+      inRunning (h .machine .state) (filed h (addFile nought sum (driven (h .machine)) (h .file) r s q)) h
+  ruledAfter nought image content sum h (Read r) = h
+  ruledAfter nought image content sum h Rotate = inRunning (h .machine .state) (withMachine h (restacked (h .machine) rotatedFrame)) h
+  ruledAfter nought image content sum h ResetRotation = inRunning (h .machine .state) (withMachine h (restacked (h .machine) resetFrame)) h
+  ruledAfter nought image content sum h Previous = h
+  ruledAfter nought image content sum h (SetPrevious w) =
+      inRunning (h .machine .state) (withMachine h (restacked (h .machine) (λ r. previousSet r w))) h
+  ruledAfter nought image content sum h Restore =
+      inCoveredOrFlushed (h .machine .state)
+      (leaves h (backTo nought image content (sceneOf h) (restoreBase (driven (h .machine))) (driven (h .machine) .saved))
+      (answered (λ _. Done) (backToAnswer nought image content (sceneOf h) (restoreBase (driven (h .machine))) (driven (h .machine) .saved))) Running)
+      h
+  ruledAfter nought image content sum h Flush =
+      inRunningOrCovered (h .machine .state)
+      (leaves h (spilled (sceneOf h) (flushRun nought image (sceneOf h))) (answered flushedAs (flushAnswer nought image (sceneOf h))) (afterFlush (h .machine .state)))
+      h
+  ruledAfter nought image content sum h EarlySpill =
+      inRunningOrCovered (h .machine .state) (cond (spillsEarly h) (lifted h (earlySpillAfter nought image (sceneOf h))) h) h
+  ruledAfter nought image content sum h EarlyFill =
+      inRunningOrCovered (h .machine .state) (cond (fillsEarly h) (lifted h (earlyFillAfter content (sceneOf h))) h) h
+  ruledAfter nought image content sum h (Load d) =
+      inFlushed (h .machine .state) (leaves h (loadAfter content (sceneOf h) d) (answered (λ _. Done) (loadAnswer content (sceneOf h) d)) Covered) h
+  ruledAfter nought image content sum h Park = inFlushed (h .machine .state) (withMachine h (parkMachine (h .machine))) h
+  ruledAfter nought image content sum h (SetMode m) = withMachine h (inMode (h .machine) m)
+  ruledAfter nought image content sum h AskState = h
+  ruledAfter nought image content sum h AskCounts = h
+
+  -- the same number of slots and words as at making
+  abbrev pub sameHost : Host C → Bool
+  sameHost h = eqb (length (h .file)) (h .machine .slots) && eqb (length (h .meaning .words)) (h .machine .words)
+
+  -- the questions in their order: the host, the operands' range, then those of the instruction
+  abbrev pub stepAnswer : C → (C → ℕ) → (ℕ → C) → Host C → Instruction → Result Answer Refusal
+  stepAnswer nought image content h i =
+      cond (sameHost h) (cond (inRange i) (ruled nought image content h i) (Err Operand)) (Err WrongHost)
+
+  abbrev pub stepAfter : C → (C → ℕ) → (ℕ → C) → (C → C → C) → Host C → Instruction → Host C
+  stepAfter nought image content sum h i =
+      cond (sameHost h) (cond (inRange i) (ruledAfter nought image content sum h i) h) h

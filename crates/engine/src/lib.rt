@@ -1,7 +1,11 @@
 // The table engine: eight contexts over one file and one store, one instruction at a time.
 ghost use mathlib.Core.Path.{_≡_};
 ghost use Prim.Native.Nat.{ℕ, _+_, _≤_, _<_};
+ghost use mathlib.Core.Bool.{true};
 ghost use lib.ListN.{length};
+ghost use Rattle.engine.specs.Hosts.{hosted};
+ghost use Rattle.engine.specs.Rules.{inRange};
+ghost use Rattle.engine.specs.Steps.{stepAnswer, stepAfter, ruled, ruledAfter};
 
 mod asking;
 mod instructions;
@@ -52,82 +56,126 @@ impl Engine {
         })
     }
 
-    // One instruction. The host hands each call the same file and the same store.
+    // One instruction. The host hands each call the same file and the same store, altered by no one else.
     pub fn step<K: Kind, S: Store>(
         &mut self,
         slots: &mut [Slot<K>],
         store: &mut S,
         instruction: Instruction,
-    ) -> Result<Answer, Refusal> {
+    ) -> Result<Answer, Refusal>
+        ensures answer { λ r. ⌜ r ≡ stepAnswer zeroContent (K·Kind .imageOf) (K·Kind .contentOf) (hosted (now (self .entry) .machine) (now (slots .entry)) (S·Store .meaning (now (store .entry)))) instruction ⌝ }
+        ensures after { λ _. ⌜ hosted (now (self .exit) .machine) (now (slots .exit)) (S·Store .meaning (now (store .exit)))
+            ≡ stepAfter zeroContent (K·Kind .imageOf) (K·Kind .contentOf) (K·Kind .sumOf) (hosted (now (self .entry) .machine) (now (slots .entry)) (S·Store .meaning (now (store .entry)))) instruction ⌝ }
+    {
         if slots.len() as u64 != self.machine.slots || store.len() != self.machine.words {
             return Err(Refusal::Host);
         }
         if !in_range(instruction) {
             return Err(Refusal::Operand);
         }
-        match (self.machine.state, instruction) {
-            (_, Instruction::SetMode { mode }) => Ok(self.set_mode(mode)),
-            (_, Instruction::State) => Ok(self.state()),
-            (_, Instruction::Counts) => Ok(self.counts()),
-            (
-                State::Idle,
-                Instruction::Begin {
-                    context,
-                    start,
-                    size,
-                },
-            ) => self.begin(context, start, size),
-            (State::Idle, Instruction::Resume { context }) => self.resume(context),
-            (State::Idle, Instruction::Retire { context }) => self.retire(context),
-            (State::Running, Instruction::Alloc { sof, sol, sor }) => self.alloc(
-                slots,
-                store,
-                sof,
-                sol,
-                sor,
-            ),
-            (State::Running, Instruction::Call) => Ok(self.call()),
-            (State::Running, Instruction::Return) => self.return_to_caller(slots, store),
-            (State::Running, Instruction::Cover) => Ok(self.cover()),
-            (
-                State::Running,
-                Instruction::Write {
-                    register,
-                    word,
-                    nat,
-                },
-            ) => self.write(slots, register, word, nat),
-            (State::Running, Instruction::Copy { target, source }) => self.copy(
-                slots,
-                target,
-                source,
-            ),
-            (
-                State::Running,
-                Instruction::Add {
-                    target,
-                    left,
-                    right,
-                },
-            ) => self.add(slots, target, left, right),
-            (State::Running, Instruction::Read { register }) => self.read(slots, register),
-            (State::Running, Instruction::Rotate) => Ok(self.rotate()),
-            (State::Running, Instruction::ResetRotation) => Ok(self.reset_rotation()),
-            (State::Running, Instruction::Previous) => Ok(self.previous()),
-            (State::Running, Instruction::SetPrevious { word }) => self.set_previous(word),
-            (State::Running | State::Covered, Instruction::Flush) => self.flush(slots, store),
-            (State::Running | State::Covered, Instruction::EarlySpill) => self.early_spill(
-                slots,
-                store,
-            ),
-            (State::Running | State::Covered, Instruction::EarlyFill) => self.early_fill(
-                slots,
-                store,
-            ),
-            (State::Covered | State::Flushed, Instruction::Restore) => self.restore(slots, store),
-            (State::Flushed, Instruction::Load { words }) => self.load(slots, store, words),
-            (State::Flushed, Instruction::Park) => Ok(self.park()),
-            _ => Err(Refusal::State),
+        self.execute(slots, store, instruction)
+    }
+
+    // An instruction whose operands are in range, in the state that there is.
+    fn execute<K: Kind, S: Store>(
+        &mut self,
+        slots: &mut [Slot<K>],
+        store: &mut S,
+        instruction: Instruction,
+    ) -> Result<Answer, Refusal>
+        requires { ⌜ inRange instruction ≡ true ⌝ }
+        ensures answer { λ r. ⌜ r ≡ ruled zeroContent (K·Kind .imageOf) (K·Kind .contentOf) (hosted (now (self .entry) .machine) (now (slots .entry)) (S·Store .meaning (now (store .entry)))) instruction ⌝ }
+        ensures after { λ _. ⌜ hosted (now (self .exit) .machine) (now (slots .exit)) (S·Store .meaning (now (store .exit)))
+            ≡ ruledAfter zeroContent (K·Kind .imageOf) (K·Kind .contentOf) (K·Kind .sumOf) (hosted (now (self .entry) .machine) (now (slots .entry)) (S·Store .meaning (now (store .entry)))) instruction ⌝ }
+    {
+        match instruction {
+            Instruction::Begin { context, start, size } => match self.machine.state {
+                State::Idle => self.begin(context, start, size),
+                _ => Err(Refusal::State),
+            },
+            Instruction::Resume { context } => match self.machine.state {
+                State::Idle => self.resume(context),
+                _ => Err(Refusal::State),
+            },
+            Instruction::Retire { context } => match self.machine.state {
+                State::Idle => self.retire(context),
+                _ => Err(Refusal::State),
+            },
+            Instruction::Alloc { sof, sol, sor } => match self.machine.state {
+                State::Running => self.alloc(slots, store, sof, sol, sor),
+                _ => Err(Refusal::State),
+            },
+            Instruction::Call => match self.machine.state {
+                State::Running => Ok(self.call()),
+                _ => Err(Refusal::State),
+            },
+            Instruction::Return => match self.machine.state {
+                State::Running => self.return_to_caller(slots, store),
+                _ => Err(Refusal::State),
+            },
+            Instruction::Cover => match self.machine.state {
+                State::Running => Ok(self.cover()),
+                _ => Err(Refusal::State),
+            },
+            Instruction::Write { register, word, nat } => match self.machine.state {
+                State::Running => self.write(slots, register, word, nat),
+                _ => Err(Refusal::State),
+            },
+            Instruction::Copy { target, source } => match self.machine.state {
+                State::Running => self.copy(slots, target, source),
+                _ => Err(Refusal::State),
+            },
+            Instruction::Add { target, left, right } => match self.machine.state {
+                State::Running => self.add(slots, target, left, right),
+                _ => Err(Refusal::State),
+            },
+            Instruction::Read { register } => match self.machine.state {
+                State::Running => self.read(slots, register),
+                _ => Err(Refusal::State),
+            },
+            Instruction::Rotate => match self.machine.state {
+                State::Running => Ok(self.rotate()),
+                _ => Err(Refusal::State),
+            },
+            Instruction::ResetRotation => match self.machine.state {
+                State::Running => Ok(self.reset_rotation()),
+                _ => Err(Refusal::State),
+            },
+            Instruction::Previous => match self.machine.state {
+                State::Running => Ok(self.previous()),
+                _ => Err(Refusal::State),
+            },
+            Instruction::SetPrevious { word } => match self.machine.state {
+                State::Running => self.set_previous(word),
+                _ => Err(Refusal::State),
+            },
+            Instruction::Restore => match self.machine.state {
+                State::Covered | State::Flushed => self.restore(slots, store),
+                _ => Err(Refusal::State),
+            },
+            Instruction::Flush => match self.machine.state {
+                State::Running | State::Covered => self.flush(slots, store),
+                _ => Err(Refusal::State),
+            },
+            Instruction::EarlySpill => match self.machine.state {
+                State::Running | State::Covered => self.early_spill(slots, store),
+                _ => Err(Refusal::State),
+            },
+            Instruction::EarlyFill => match self.machine.state {
+                State::Running | State::Covered => self.early_fill(slots, store),
+                _ => Err(Refusal::State),
+            },
+            Instruction::Load { words } => match self.machine.state {
+                State::Flushed => self.load(slots, store, words),
+                _ => Err(Refusal::State),
+            },
+            Instruction::Park => match self.machine.state {
+                State::Flushed => Ok(self.park()),
+                _ => Err(Refusal::State),
+            },
+            Instruction::SetMode { mode } => Ok(self.set_mode(mode)),
+            Instruction::State => Ok(self.state()),
+            Instruction::Counts => Ok(self.counts()),
         }
     }
 }
