@@ -1,4 +1,5 @@
 pub mod Hosts
+pub mod Making
 pub mod Rules
 pub mod Running
 pub mod Steps

@@ -1,10 +1,13 @@
 // The table engine: eight contexts over one file and one store, one instruction at a time.
 ghost use mathlib.Core.Path.{_≡_};
 ghost use Prim.Native.Nat.{ℕ, _+_, _≤_, _<_};
-ghost use mathlib.Core.Bool.{true};
+ghost use mathlib.Core.Bool.{true, false};
 ghost use lib.ListN.{length};
 ghost use Rattle.engine.specs.Hosts.{hosted};
+ghost use Rattle.std.specs.declared.result.Result.the-variants.{Ok, Err};
+ghost use Rattle.context.specs.declared.refusals.Refusal.the-variants.{Host as WrongHost};
 ghost use Rattle.engine.specs.Rules.{inRange};
+ghost use Rattle.engine.specs.Making.{canMake, newMachine};
 ghost use Rattle.engine.specs.Steps.{stepAnswer, stepAfter, ruled, ruledAfter};
 
 mod asking;
@@ -31,7 +34,9 @@ use store::Store;
 impl Engine {
     // A new engine, for files of so many slots over stores of so many words: slots a multiple of 16 from 96 to 2,048,
     // words a multiple of 64 from 64 to 65,536.
-    pub fn new(slots: u64, words: u64) -> Result<Engine, Refusal> {
+    pub fn new(slots: u64, words: u64) -> Result<Engine, Refusal>
+        ensures { λ r. ⌜ elim r [ Ok e ↦ (canMake slots words ≡ true) × (e .machine ≡ newMachine slots words) | Err e ↦ (canMake slots words ≡ false) × (e ≡ WrongHost) ] ⌝ }
+    {
         if slots % 16 != 0 || slots < 96 || slots > 2048 {
             return Err(Refusal::Host);
         }
@@ -89,7 +94,11 @@ impl Engine {
             ≡ ruledAfter zeroContent (K·Kind .imageOf) (K·Kind .contentOf) (K·Kind .sumOf) (hosted (now (self .entry) .machine) (now (slots .entry)) (S·Store .meaning (now (store .entry)))) instruction ⌝ }
     {
         match instruction {
-            Instruction::Begin { context, start, size } => match self.machine.state {
+            Instruction::Begin {
+                context,
+                start,
+                size,
+            } => match self.machine.state {
                 State::Idle => self.begin(context, start, size),
                 _ => Err(Refusal::State),
             },
@@ -117,7 +126,11 @@ impl Engine {
                 State::Running => Ok(self.cover()),
                 _ => Err(Refusal::State),
             },
-            Instruction::Write { register, word, nat } => match self.machine.state {
+            Instruction::Write {
+                register,
+                word,
+                nat,
+            } => match self.machine.state {
                 State::Running => self.write(slots, register, word, nat),
                 _ => Err(Refusal::State),
             },
@@ -125,7 +138,11 @@ impl Engine {
                 State::Running => self.copy(slots, target, source),
                 _ => Err(Refusal::State),
             },
-            Instruction::Add { target, left, right } => match self.machine.state {
+            Instruction::Add {
+                target,
+                left,
+                right,
+            } => match self.machine.state {
                 State::Running => self.add(slots, target, left, right),
                 _ => Err(Refusal::State),
             },

@@ -37,7 +37,7 @@ impl Engine {
         ensures answer { λ r. ⌜ r ≡ answered Marker (allocAnswer zeroContent (K·Kind .imageOf) (sceneOf (hosted (now (self .entry) .machine) (now (slots .entry)) (S·Store .meaning (now (store .entry))))) sof sol sor) ⌝ }
         ensures after { λ _. ⌜ hosted (now (self .exit) .machine) (now (slots .exit)) (S·Store .meaning (now (store .exit)))
             ≡ lifted (hosted (now (self .entry) .machine) (now (slots .entry)) (S·Store .meaning (now (store .entry))))
-              (allocAfter zeroContent (K·Kind .imageOf) (sceneOf (hosted (now (self .entry) .machine) (now (slots .entry)) (S·Store .meaning (now (store .entry))))) sof sol sor) ⌝ }
+            (allocAfter zeroContent (K·Kind .imageOf) (sceneOf (hosted (now (self .entry) .machine) (now (slots .entry)) (S·Store .meaning (now (store .entry))))) sof sol sor) ⌝ }
     {
         let mut context = self.context();
         let previous = context.alloc(slots, store, sof, sol, sor);
@@ -64,7 +64,7 @@ impl Engine {
             (sceneOf (hosted (now (self .entry) .machine) (now (slots .entry)) (S·Store .meaning (now (store .entry))))) (returnBase (recordAt (now (self .entry) .machine) (now (self .entry) .machine .current))) ((recordAt (now (self .entry) .machine) (now (self .entry) .machine .current)) .previous)) ⌝ }
         ensures after { λ _. ⌜ hosted (now (self .exit) .machine) (now (slots .exit)) (S·Store .meaning (now (store .exit)))
             ≡ lifted (hosted (now (self .entry) .machine) (now (slots .entry)) (S·Store .meaning (now (store .entry)))) (backTo zeroContent (K·Kind .imageOf) (K·Kind .contentOf)
-              (sceneOf (hosted (now (self .entry) .machine) (now (slots .entry)) (S·Store .meaning (now (store .entry))))) (returnBase (recordAt (now (self .entry) .machine) (now (self .entry) .machine .current))) ((recordAt (now (self .entry) .machine) (now (self .entry) .machine .current)) .previous)) ⌝ }
+            (sceneOf (hosted (now (self .entry) .machine) (now (slots .entry)) (S·Store .meaning (now (store .entry))))) (returnBase (recordAt (now (self .entry) .machine) (now (self .entry) .machine .current))) ((recordAt (now (self .entry) .machine) (now (self .entry) .machine .current)) .previous)) ⌝ }
     {
         let mut context = self.context();
         let returned = context.return_to_caller(slots, store);
@@ -127,11 +127,7 @@ impl Engine {
         Ok(Answer::Done)
     }
 
-    pub(crate) fn read<K: Kind>(
-        &self,
-        slots: &[Slot<K>],
-        register: u64,
-    ) -> Result<Answer, Refusal>
+    pub(crate) fn read<K: Kind>(&self, slots: &[Slot<K>], register: u64) -> Result<Answer, Refusal>
         ensures { λ r. ⌜ r ≡ answered (shownAs (K·Kind .imageOf)) (readAnswer zeroContent (recordAt (now (self .entry) .machine) (now (self .entry) .machine .current)) (now (slots .entry)) register) ⌝ }
     {
         Ok(shown(self.context().read(slots, register)?))
@@ -183,7 +179,7 @@ impl Engine {
             (sceneOf (hosted (now (self .entry) .machine) (now (slots .entry)) (S·Store .meaning (now (store .entry))))) (restoreBase (recordAt (now (self .entry) .machine) (now (self .entry) .machine .current))) ((recordAt (now (self .entry) .machine) (now (self .entry) .machine .current)) .saved)) ⌝ }
         ensures after { λ r. ⌜ hosted (now (self .exit) .machine) (now (slots .exit)) (S·Store .meaning (now (store .exit)))
             ≡ leaves (hosted (now (self .entry) .machine) (now (slots .entry)) (S·Store .meaning (now (store .entry)))) (backTo zeroContent (K·Kind .imageOf) (K·Kind .contentOf)
-              (sceneOf (hosted (now (self .entry) .machine) (now (slots .entry)) (S·Store .meaning (now (store .entry))))) (restoreBase (recordAt (now (self .entry) .machine) (now (self .entry) .machine .current))) ((recordAt (now (self .entry) .machine) (now (self .entry) .machine .current)) .saved)) r Running ⌝ }
+            (sceneOf (hosted (now (self .entry) .machine) (now (slots .entry)) (S·Store .meaning (now (store .entry))))) (restoreBase (recordAt (now (self .entry) .machine) (now (self .entry) .machine .current))) ((recordAt (now (self .entry) .machine) (now (self .entry) .machine .current)) .saved)) r Running ⌝ }
     {
         let mut context = self.context();
         let restored = context.restore(slots, store);
@@ -202,7 +198,7 @@ impl Engine {
         ensures answer { λ r. ⌜ r ≡ answered flushedAs (flushAnswer zeroContent (K·Kind .imageOf) (sceneOf (hosted (now (self .entry) .machine) (now (slots .entry)) (S·Store .meaning (now (store .entry)))))) ⌝ }
         ensures after { λ r. ⌜ hosted (now (self .exit) .machine) (now (slots .entry)) (S·Store .meaning (now (store .exit)))
             ≡ leaves (hosted (now (self .entry) .machine) (now (slots .entry)) (S·Store .meaning (now (store .entry)))) (spilled (sceneOf (hosted (now (self .entry) .machine) (now (slots .entry)) (S·Store .meaning (now (store .entry)))))
-              (flushRun zeroContent (K·Kind .imageOf) (sceneOf (hosted (now (self .entry) .machine) (now (slots .entry)) (S·Store .meaning (now (store .entry))))))) r (afterFlush (now (self .entry) .machine .state)) ⌝ }
+            (flushRun zeroContent (K·Kind .imageOf) (sceneOf (hosted (now (self .entry) .machine) (now (slots .entry)) (S·Store .meaning (now (store .entry))))))) r (afterFlush (now (self .entry) .machine .state)) ⌝ }
     {
         let mut context = self.context();
         let flushed = context.flush(slots, store);
@@ -222,7 +218,7 @@ impl Engine {
             (answered (λ _. Done) (earlySpillAnswer zeroContent (K·Kind .imageOf) (sceneOf (hosted (now (self .entry) .machine) (now (slots .entry)) (S·Store .meaning (now (store .entry))))))) (Err Mode) ⌝ }
         ensures after { λ _. ⌜ hosted (now (self .exit) .machine) (now (slots .entry)) (S·Store .meaning (now (store .exit)))
             ≡ cond (spillsEarly (hosted (now (self .entry) .machine) (now (slots .entry)) (S·Store .meaning (now (store .entry))))) (lifted (hosted (now (self .entry) .machine) (now (slots .entry)) (S·Store .meaning (now (store .entry))))
-              (earlySpillAfter zeroContent (K·Kind .imageOf) (sceneOf (hosted (now (self .entry) .machine) (now (slots .entry)) (S·Store .meaning (now (store .entry))))))) (hosted (now (self .entry) .machine) (now (slots .entry)) (S·Store .meaning (now (store .entry)))) ⌝ }
+            (earlySpillAfter zeroContent (K·Kind .imageOf) (sceneOf (hosted (now (self .entry) .machine) (now (slots .entry)) (S·Store .meaning (now (store .entry))))))) (hosted (now (self .entry) .machine) (now (slots .entry)) (S·Store .meaning (now (store .entry)))) ⌝ }
     {
         if self.machine.mode % 2 != 1 {
             return Err(Refusal::Mode);
@@ -244,7 +240,7 @@ impl Engine {
             (answered (λ _. Done) (earlyFillAnswer (K·Kind .contentOf) (sceneOf (hosted (now (self .entry) .machine) (now (slots .entry)) (S·Store .meaning (now (store .entry))))))) (Err Mode) ⌝ }
         ensures after { λ _. ⌜ hosted (now (self .exit) .machine) (now (slots .exit)) (S·Store .meaning (now (store .entry)))
             ≡ cond (fillsEarly (hosted (now (self .entry) .machine) (now (slots .entry)) (S·Store .meaning (now (store .entry))))) (lifted (hosted (now (self .entry) .machine) (now (slots .entry)) (S·Store .meaning (now (store .entry))))
-              (earlyFillAfter (K·Kind .contentOf) (sceneOf (hosted (now (self .entry) .machine) (now (slots .entry)) (S·Store .meaning (now (store .entry))))))) (hosted (now (self .entry) .machine) (now (slots .entry)) (S·Store .meaning (now (store .entry)))) ⌝ }
+            (earlyFillAfter (K·Kind .contentOf) (sceneOf (hosted (now (self .entry) .machine) (now (slots .entry)) (S·Store .meaning (now (store .entry))))))) (hosted (now (self .entry) .machine) (now (slots .entry)) (S·Store .meaning (now (store .entry)))) ⌝ }
     {
         if self.machine.mode / 2 % 2 != 1 {
             return Err(Refusal::Mode);
@@ -265,7 +261,7 @@ impl Engine {
         ensures answer { λ r. ⌜ r ≡ answered (λ _. Done) (loadAnswer (K·Kind .contentOf) (sceneOf (hosted (now (self .entry) .machine) (now (slots .entry)) (S·Store .meaning (now (store .entry))))) words) ⌝ }
         ensures after { λ r. ⌜ hosted (now (self .exit) .machine) (now (slots .exit)) (S·Store .meaning (now (store .entry)))
             ≡ leaves (hosted (now (self .entry) .machine) (now (slots .entry)) (S·Store .meaning (now (store .entry))))
-              (loadAfter (K·Kind .contentOf) (sceneOf (hosted (now (self .entry) .machine) (now (slots .entry)) (S·Store .meaning (now (store .entry))))) words) r Covered ⌝ }
+            (loadAfter (K·Kind .contentOf) (sceneOf (hosted (now (self .entry) .machine) (now (slots .entry)) (S·Store .meaning (now (store .entry))))) words) r Covered ⌝ }
     {
         let mut context = self.context();
         let loaded = context.load(slots, store, words);

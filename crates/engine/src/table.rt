@@ -113,7 +113,11 @@ impl Engine {
         if !self.is_clear(region) {
             return Err(Refusal::Overlap);
         }
-        self.drive(k, Context::begin(region, context, self.machine.counts), State::Running);
+        self.drive(
+            k,
+            Context::begin(region, context, self.machine.counts),
+            State::Running,
+        );
         Ok(Answer::Done)
     }
 
