@@ -1,12 +1,10 @@
 // Words of the backing store: addresses of stack positions, groups, NaT collections and their bits.
 ghost use mathlib.Core.Path.{_≡_};
 ghost use mathlib.Core.Bool.{true};
-ghost use mathlib.Core.List.{[], _∷_};
 ghost use Prim.Native.Nat.{ℕ, _+_, _%_, _^_, _≤_};
 ghost use Rattle.address.specs.Addresses.{addressOf, groupOf, isCollection, collectionOf, positionsBelow, capacityOf};
 ghost use Rattle.address.specs.AddressLaws.{Aligned, nextRegister, registersAmong, Increasing, Apart, Neighbours, Counted, Found, Monotone, Steps};
 ghost use Rattle.address.specs.AddressLaws.{PositionAt, CollectionOrNot, Region, Among, LastOfGroup, BitPlaces};
-ghost use Rattle.address.specs.Figures.{FiguresHold};
 ghost use Rattle.address.specs.NatBits.{natBit, withNat, natsBelow};
 ghost use Rattle.address.specs.NatLaws.{Fresh, Bounded, Placed, Cut, Local, Extended, TopClear, Whole};
 
@@ -160,20 +158,4 @@ pub fn place_value(word: u64) -> u64
 {
     nat_laws();
     1 << bit_place(word)
-}
-
-// Addresses around the first two collections of a region at word 0, and the collection of NaT at positions 0 and 62.
-pub fn figures() -> ([u64; 4], u64)
-    ensures addresses { λ r. ⌜ r .0 ≡ 62 ∷ 64 ∷ 126 ∷ 128 ∷ [] ⌝ }
-    ensures collection { λ r. ⌜ r .1 ≡ 4611686018427387905 ⌝ }
-    ensures defined { λ _. ⌜ FiguresHold ⌝ }
-{
-    let addresses = [
-        address_of(0, 62),
-        address_of(0, 63),
-        address_of(0, 125),
-        address_of(0, 126),
-    ];
-    let first = with_nat(0, address_of(0, 0), true);
-    (addresses, with_nat(first, address_of(0, 62), true))
 }
