@@ -1,0 +1,6 @@
+pub mod Lines
+pub mod Numbers
+pub mod Outcomes
+pub mod Printed
+pub mod Spelling
+pub mod Sessions

@@ -2,8 +2,7 @@
 ghost use mathlib.Core.Path.{_≡_};
 ghost use Prim.Native.Nat.{ℕ, _+_, _-_, _*_, _/_, _%_, _^_, _<_, _≤_};
 ghost use Rattle.std.specs.declared.option.Option.the-variants.{Some, None};
-use std::alloc::AllocError;
-use std::alloc::Refused;
+ghost use Rattle.text.specs.Numbers.{worth, afterDigits, NumberOf};
 
 // One digit more, where the number still fits.
 fn grown(n: u64, digit: u8) -> Option<u64>
@@ -19,7 +18,9 @@ fn grown(n: u64, digit: u8) -> Option<u64>
 }
 
 // The number that the digits at the start of the text come to, and what follows them; none where it passes 64 bits.
-fn digits(text: &[u8]) -> Option<(u64, &[u8])> {
+fn digits(text: &[u8]) -> Option<(u64, &[u8])>
+    ensures { λ r. ⌜ elim r [ None ↦ 2 ^ 64 ≤ worth 0 (now (text .entry)) | Some p ↦ (p .0 ≡ worth 0 (now (text .entry))) × (now (p .1) ≡ afterDigits (now (text .entry))) ] ⌝ }
+{
     let mut n: u64 = 0;
     let mut left = text;
     while let [b @ b'0'..=b'9', tail @ ..] = left {
@@ -33,19 +34,12 @@ fn digits(text: &[u8]) -> Option<(u64, &[u8])> {
 }
 
 // A decimal number below 2^64 without leading zeros, and what follows it.
-pub(crate) fn number(text: &[u8]) -> Option<(u64, &[u8])> {
+pub(crate) fn number(text: &[u8]) -> Option<(u64, &[u8])>
+    ensures { λ r. ⌜ NumberOf (now (text .entry)) r ⌝ }
+{
     match text {
         [b'0', b'0'..=b'9', ..] => None,
         [b'0'..=b'9', ..] => digits(text),
         _ => None,
     }
-}
-
-// Writes a number in decimal.
-pub(crate) fn push_number(out: &mut Vec<u8>, n: u64) -> Result<(), AllocError> {
-    if n >= 10 {
-        push_number(out, n / 10)?;
-    }
-    out.push(b'0' + (n % 10) as u8)?;
-    Ok(())
 }

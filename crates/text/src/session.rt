@@ -1,6 +1,15 @@
 // Sessions: bytes in, bytes out.
+ghost use mathlib.Core.Path.{_≡_};
 ghost use Prim.Native.Nat.{ℕ, _+_, _≤_, _<_};
 ghost use lib.ListN.{length};
+ghost use Rattle.std.specs.Of.Vec.{vec-items};
+ghost use Rattle.std.specs.Vec.{made};
+ghost use Rattle.std.specs.declared.result.Result.the-variants.{Ok, Err};
+ghost use Rattle.text.specs.Outcomes.{faultAt, outcomeOf, printed, isGranted, Tells, Ends, Short};
+ghost use Rattle.text.specs.Printed.{Appends};
+ghost use Rattle.engine.specs.Hosts.{hosted};
+ghost use Rattle.engine.specs.Steps.{stepAnswer, stepAfter};
+ghost use Rattle.text.specs.Sessions.{onLine, numbered, LineRuns};
 use super::lines::first_line;
 use super::printing::push_answer;
 use super::printing::push_end;
@@ -9,6 +18,7 @@ use super::reading::read_line;
 use context::Refusal;
 use engine::Answer;
 use engine::Engine;
+use engine::Instruction;
 use register::Kind;
 use register::Slot;
 use std::alloc::AllocError;
@@ -52,11 +62,28 @@ pub impl From<Refusal> for SessionError as SessionErrorFromRefusal {
 }
 
 // Adds the line's number to a refusal.
-fn on_line<T>(result: Result<T, Refusal>, line: u64) -> Result<T, RunFault> {
+fn on_line<T>(result: Result<T, Refusal>, line: u64) -> Result<T, RunFault>
+    ensures { λ r. ⌜ r ≡ onLine result line ⌝ }
+{
     match result {
         Ok(v) => Ok(v),
         Err(refusal) => Err(RunFault { refusal, line }),
     }
+}
+
+// An instruction of a session, its refusal with the line's number.
+fn execute<K: Kind, S: Store>(
+    engine: &mut Engine,
+    slots: &mut [Slot<K>],
+    store: &mut S,
+    instruction: Instruction,
+    line: u64,
+) -> Result<Answer, RunFault>
+    ensures answer { λ r. ⌜ r ≡ numbered (stepAnswer zeroContent (K·Kind .imageOf) (K·Kind .contentOf) (hosted (now (engine .entry) .machine) (now (slots .entry)) (S·Store .meaning (now (store .entry)))) instruction) line ⌝ }
+    ensures after { λ _. ⌜ (hosted (now (engine .exit) .machine) (now (slots .exit)) (S·Store .meaning (now (store .exit))))
+        ≡ stepAfter zeroContent (K·Kind .imageOf) (K·Kind .contentOf) (K·Kind .sumOf) (hosted (now (engine .entry) .machine) (now (slots .entry)) (S·Store .meaning (now (store .entry)))) instruction ⌝ }
+{
+    on_line(engine.step(slots, store, instruction), line)
 }
 
 // One line, given without its end byte.
@@ -66,9 +93,12 @@ pub fn execute_line<K: Kind, S: Store>(
     store: &mut S,
     text: &[u8],
     line: u64,
-) -> Result<Answer, RunFault> {
+) -> Result<Answer, RunFault>
+    ensures { λ r. ⌜ LineRuns zeroContent (K·Kind .imageOf) (K·Kind .contentOf) (K·Kind .sumOf) (hosted (now (engine .entry) .machine) (now (slots .entry)) (S·Store .meaning (now (store .entry))))
+        (now (text .entry)) line r (hosted (now (engine .exit) .machine) (now (slots .exit)) (S·Store .meaning (now (store .exit)))) ⌝ }
+{
     let instruction = on_line(read_line(text).ok_or(Refusal::Unreadable), line)?;
-    let answer = on_line(engine.step(slots, store, instruction), line)?;
+    let answer = execute(engine, slots, store, instruction, line)?;
     Ok(answer)
 }
 
@@ -97,7 +127,10 @@ fn prepared(
 }
 
 // Prints the outcome of a line; was it granted?
-fn print_outcome(out: &mut Vec<u8>, outcome: Result<Answer, RunFault>) -> Result<bool, AllocError> {
+fn print_outcome(out: &mut Vec<u8>, outcome: Result<Answer, RunFault>) -> Result<bool, AllocError>
+    ensures line { λ r. ⌜ Appends (now (out .entry)) (now (out .exit)) (printed (outcomeOf outcome)) r ⌝ }
+    ensures granted { λ r. ⌜ made r (λ b. b ≡ isGranted (outcomeOf outcome)) ⌝ }
+{
     match outcome {
         Ok(answer) => {
             push_answer(out, answer)?;
@@ -108,6 +141,28 @@ fn print_outcome(out: &mut Vec<u8>, outcome: Result<Answer, RunFault>) -> Result
             Ok(false)
         }
     }
+}
+
+// Prints an outcome.
+pub fn push_outcome(out: &mut Vec<u8>, outcome: Outcome) -> Result<(), AllocError>
+    ensures { λ r. ⌜ Appends (now (out .entry)) (now (out .exit)) (printed outcome) r ⌝ }
+{
+    match outcome {
+        Outcome::Granted(answer) => push_answer(out, answer),
+        Outcome::Refused(fault) => push_refusal(out, fault.refusal),
+    }
+}
+
+// The printed line of an outcome, in memory of its own.
+pub fn print_line(heap: Global, outcome: Outcome) -> Result<Vec<u8>, AllocError>
+    ensures line { λ r. ⌜ made r (λ v. vec-items v ≡ printed outcome) ⌝ }
+    ensures tells { λ _. ⌜ Tells ⌝ }
+    ensures ends { λ _. ⌜ Ends ⌝ }
+    ensures short { λ _. ⌜ Short ⌝ }
+{
+    let mut out = Vec::with_capacity(heap, LONGEST_ANSWER)?;
+    push_outcome(&mut out, outcome)?;
+    Ok(out)
 }
 
 // Runs the lines of the input on a new engine, and gives what is printed: an answer for each line, and the end line.

@@ -1,4 +1,4 @@
-use Rattle.text.proofs.numbers.+push_number.Given as given
+use Rattle.text.proofs.printing.+push_number.Given as given
 
 abbrev pub μ-push-number : given.MeasureT-push-number
 μ-push-number l = l .n

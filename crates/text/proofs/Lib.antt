@@ -1,0 +1,6 @@
+pub mod Appended
+pub mod Decimals
+pub mod Ends
+pub mod Operands
+pub mod Spelled
+pub mod Told
