@@ -4,3 +4,4 @@ pub mod Ends
 pub mod Operands
 pub mod Spelled
 pub mod Told
+pub mod SessionRuns

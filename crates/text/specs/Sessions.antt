@@ -12,7 +12,10 @@ use Rattle.context.specs.declared.refusals.Refusal.{Refusal}
 use Rattle.context.specs.declared.refusals.Refusal.the-variants as R
 use Rattle.engine.specs.declared.instructions.Answer.{Answer}
 use Rattle.engine.specs.declared.instructions.Instruction.{Instruction}
+use lib.ListN.{length}
+use Rattle.engine.specs.declared.machine.Machine.{Machine}
 use Rattle.engine.specs.Hosts.{Host, hosted}
+use Rattle.text.specs.Lines.{linesOf}
 use Rattle.engine.specs.Making.{newMachine}
 use Rattle.engine.specs.Steps.{stepAnswer, stepAfter}
 use Rattle.text.specs.declared.session.Outcome.{Outcome}
@@ -62,3 +65,14 @@ printedLines (o ∷ os) = printed o ++ printedLines os
 -- and the end line with both counts
 abbrev pub printedAll : List Outcome → List ℕ
 printedAll os = printedLines os ++ printedEnd (grantedIn os) (refusedIn os)
+
+module _ {C : Type 0} where
+  -- the outcomes of the lines of an input, on a new engine over this file and this store, and what they leave of both
+  abbrev pub SessionRuns : C → (C → ℕ) → (ℕ → C) → (C → C → C) → List (Slot C) → Meaning → List ℕ → List Outcome → List (Slot C) → Meaning → Type 0
+  SessionRuns nought image content sum file m input os file' m' =
+      (machine : Machine) × Runs nought image content sum (hosted (newMachine (length file) (length (m .words))) file m) (linesOf input) 1 os (hosted machine file' m')
+
+  -- what is printed of them
+  abbrev pub SessionPrints : C → (C → ℕ) → (ℕ → C) → (C → C → C) → List (Slot C) → Meaning → List ℕ → List ℕ → List (Slot C) → Meaning → Type 0
+  SessionPrints nought image content sum file m input bytes file' m' =
+      (os : List Outcome) × (bytes ≡ printedAll os) × SessionRuns nought image content sum file m input os file' m'

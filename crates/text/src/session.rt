@@ -1,5 +1,7 @@
 // Sessions: bytes in, bytes out.
 ghost use mathlib.Core.Path.{_≡_};
+ghost use mathlib.Core.Bool.{cond};
+ghost use mathlib.Core.List.{_++_};
 ghost use Prim.Native.Nat.{ℕ, _+_, _≤_, _<_};
 ghost use lib.ListN.{length};
 ghost use Rattle.std.specs.Of.Vec.{vec-items};
@@ -9,7 +11,8 @@ ghost use Rattle.text.specs.Outcomes.{faultAt, outcomeOf, printed, isGranted, 
 ghost use Rattle.text.specs.Printed.{Appends};
 ghost use Rattle.engine.specs.Hosts.{hosted};
 ghost use Rattle.engine.specs.Steps.{stepAnswer, stepAfter};
-ghost use Rattle.text.specs.Sessions.{onLine, numbered, LineRuns};
+ghost use Rattle.text.specs.Lines.{linesOf};
+ghost use Rattle.text.specs.Sessions.{onLine, numbered, LineRuns, Runs, SessionRuns, SessionPrints, printedAll};
 use super::lines::first_line;
 use super::printing::push_answer;
 use super::printing::push_end;
@@ -102,6 +105,41 @@ pub fn execute_line<K: Kind, S: Store>(
     Ok(answer)
 }
 
+// The outcome that a line's result is.
+fn outcome_of(result: Result<Answer, RunFault>) -> Outcome
+    ensures { λ r. ⌜ r ≡ outcomeOf result ⌝ }
+{
+    match result {
+        Ok(answer) => Outcome::Granted(answer),
+        Err(fault) => Outcome::Refused(fault),
+    }
+}
+
+// Executes the lines of the input, one after another: an outcome for each.
+fn execute_lines<K: Kind, S: Store>(
+    heap: Global,
+    engine: &mut Engine,
+    slots: &mut [Slot<K>],
+    store: &mut S,
+    input: &[u8],
+) -> Result<Vec<Outcome>, AllocError>
+    ensures { λ r. ⌜ made r (λ v. Runs zeroContent (K·Kind .imageOf) (K·Kind .contentOf) (K·Kind .sumOf)
+        (hosted (now (engine .entry) .machine) (now (slots .entry)) (S·Store .meaning (now (store .entry)))) (linesOf (now (input .entry))) 1 (vec-items v)
+        (hosted (now (engine .exit) .machine) (now (slots .exit)) (S·Store .meaning (now (store .exit))))) ⌝ }
+{
+    let mut outcomes = Vec::with_capacity(heap, lines_at_most(input))?;
+    let mut number: u64 = 0;
+    let mut rest = input;
+    while !rest.is_empty() {
+        let (line, after) = first_line(rest);
+        number += 1;
+        let result = execute_line(engine, slots, store, line, number);
+        outcomes.push(outcome_of(result))?;
+        rest = after;
+    }
+    Ok(outcomes)
+}
+
 // How many lines an input has at most.
 fn lines_at_most(input: &[u8]) -> usize {
     let mut n: usize = 0;
@@ -111,36 +149,6 @@ fn lines_at_most(input: &[u8]) -> usize {
         }
     }
     n.saturating_add(1)
-}
-
-// A new engine, and memory for all answers.
-fn prepared(
-    heap: Global,
-    slots: u64,
-    words: u64,
-    lines: usize,
-) -> Result<(Engine, Vec<u8>), SessionError> {
-    let engine = Engine::new(slots, words)?;
-    let room = lines.saturating_add(1).saturating_mul(LONGEST_ANSWER);
-    let out = Vec::with_capacity(heap, room)?;
-    Ok((engine, out))
-}
-
-// Prints the outcome of a line; was it granted?
-fn print_outcome(out: &mut Vec<u8>, outcome: Result<Answer, RunFault>) -> Result<bool, AllocError>
-    ensures line { λ r. ⌜ Appends (now (out .entry)) (now (out .exit)) (printed (outcomeOf outcome)) r ⌝ }
-    ensures granted { λ r. ⌜ made r (λ b. b ≡ isGranted (outcomeOf outcome)) ⌝ }
-{
-    match outcome {
-        Ok(answer) => {
-            push_answer(out, answer)?;
-            Ok(true)
-        }
-        Err(fault) => {
-            push_refusal(out, fault.refusal)?;
-            Ok(false)
-        }
-    }
 }
 
 // Prints an outcome.
@@ -165,32 +173,63 @@ pub fn print_line(heap: Global, outcome: Outcome) -> Result<Vec<u8>, AllocError>
     Ok(out)
 }
 
+// Prints the outcomes of a session, and the end line.
+pub fn print_session(out: &mut Vec<u8>, outcomes: &[Outcome]) -> Result<(), AllocError>
+    ensures { λ r. ⌜ made r (λ _. vec-items (now (out .exit)) ≡ vec-items (now (out .entry)) ++ printedAll (now (outcomes .entry))) ⌝ }
+{
+    let mut granted: u64 = 0;
+    let mut refused: u64 = 0;
+    for outcome in outcomes {
+        push_outcome(out, *outcome)?;
+        granted += count(is_granted(*outcome));
+        refused += count(!is_granted(*outcome));
+    }
+    push_end(out, granted, refused)
+}
+
+fn is_granted(outcome: Outcome) -> bool
+    ensures { λ r. ⌜ r ≡ isGranted outcome ⌝ }
+{
+    match outcome {
+        Outcome::Granted(_) => true,
+        Outcome::Refused(_) => false,
+    }
+}
+
+fn count(yes: bool) -> u64
+    ensures { λ r. ⌜ r ≡ cond yes 1 0 ⌝ }
+{
+    u64::from(yes)
+}
+
+// Runs the lines of the input on a new engine, and gives the outcome of each, with faults.
+pub fn run_outcomes<K: Kind, S: Store>(
+    heap: Global,
+    slots: &mut [Slot<K>],
+    store: &mut S,
+    input: &[u8],
+) -> Result<Vec<Outcome>, SessionError>
+    ensures { λ r. ⌜ made r (λ v. SessionRuns zeroContent (K·Kind .imageOf) (K·Kind .contentOf) (K·Kind .sumOf)
+        (now (slots .entry)) (S·Store .meaning (now (store .entry))) (now (input .entry)) (vec-items v) (now (slots .exit)) (S·Store .meaning (now (store .exit)))) ⌝ }
+{
+    let mut engine = Engine::new(slots.len() as u64, store.len())?;
+    let outcomes = execute_lines(heap, &mut engine, slots, store, input)?;
+    Ok(outcomes)
+}
+
 // Runs the lines of the input on a new engine, and gives what is printed: an answer for each line, and the end line.
 pub fn run_session<K: Kind, S: Store>(
     heap: Global,
     slots: &mut [Slot<K>],
     store: &mut S,
     input: &[u8],
-) -> Result<Vec<u8>, SessionError> {
-    let (mut engine, mut out) = prepared(
-        heap,
-        slots.len() as u64,
-        store.len(),
-        lines_at_most(input),
-    )?;
-    let mut granted: u64 = 0;
-    let mut refused: u64 = 0;
-    let mut rest = input;
-    while !rest.is_empty() {
-        let (line, after) = first_line(rest);
-        let outcome = execute_line(&mut engine, slots, store, line, granted + refused + 1);
-        if print_outcome(&mut out, outcome)? {
-            granted += 1;
-        } else {
-            refused += 1;
-        }
-        rest = after;
-    }
-    push_end(&mut out, granted, refused)?;
+) -> Result<Vec<u8>, SessionError>
+    ensures { λ r. ⌜ made r (λ v. SessionPrints zeroContent (K·Kind .imageOf) (K·Kind .contentOf) (K·Kind .sumOf)
+        (now (slots .entry)) (S·Store .meaning (now (store .entry))) (now (input .entry)) (vec-items v) (now (slots .exit)) (S·Store .meaning (now (store .exit)))) ⌝ }
+{
+    let room = lines_at_most(input).saturating_add(1).saturating_mul(LONGEST_ANSWER);
+    let mut out = Vec::with_capacity(heap, room)?;
+    let outcomes = run_outcomes(heap, slots, store, input)?;
+    print_session(&mut out, &outcomes)?;
     Ok(out)
 }
