@@ -29,7 +29,11 @@ impl Region {
     // The region, where it is well formed in a store of `length` words: both numbers multiples of 64, at least 64
     // words, and all of them in the store.
     pub fn new(start: u64, size: u64, length: u64) -> Option<Region>
-        ensures { λ r. ⌜ elim r [ Some g ↦ (wellFormed start size length ≡ true) × (g .start ≡ start) × (g .size ≡ size) | None ↦ wellFormed start size length ≡ false ] ⌝ }
+        ensures { λ r. ⌜ elim r [
+          | Some g ↦ (wellFormed start size length ≡ true) × (g .start ≡ start) × (g .size
+              ≡ size)
+          | None ↦ wellFormed start size length ≡ false
+        ] ⌝ }
     {
         if start > LONGEST_STORE
             || size > LONGEST_STORE

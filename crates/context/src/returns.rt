@@ -37,7 +37,8 @@ impl Context {
         store: &mut S,
         floor: u32,
     ) -> Result<(), MoveFault>
-        ensures answer { λ r. ⌜ r ≡ roomAnswer zeroContent (K·Kind .imageOf) (seen (now (self .entry)) (now (slots .entry)) (S·Store .meaning (now (store .entry)))) floor ⌝ }
+        ensures answer { λ r. ⌜ r ≡ roomAnswer zeroContent (K·Kind .imageOf) (seen (now (self .entry)) (now (slots .entry))
+            (S·Store .meaning (now (store .entry)))) floor ⌝ }
         ensures after { λ _. ⌜ seen (now (self .exit)) (now (slots .entry)) (S·Store .meaning (now (store .exit)))
             ≡ roomAfter zeroContent (K·Kind .imageOf) (seen (now (self .entry)) (now (slots .entry)) (S·Store .meaning (now (store .entry)))) floor ⌝ }
     {
@@ -88,7 +89,8 @@ impl Context {
         high: u32,
         word: u64,
     ) -> Result<(), MoveFault>
-        ensures answer { λ r. ⌜ r ≡ refillAnswer (K·Kind .contentOf) (seen (now (self .entry)) (now (slots .entry)) (S·Store .meaning (now (store .entry)))) low high word ⌝ }
+        ensures answer { λ r. ⌜ r ≡ refillAnswer (K·Kind .contentOf) (seen (now (self .entry)) (now (slots .entry))
+            (S·Store .meaning (now (store .entry)))) low high word ⌝ }
         ensures after { λ _. ⌜ seen (now (self .exit)) (now (slots .exit)) (S·Store .meaning (now (store .entry)))
             ≡ refillAfter (K·Kind .contentOf) (seen (now (self .entry)) (now (slots .entry)) (S·Store .meaning (now (store .entry)))) low high word ⌝ }
     {
@@ -109,9 +111,11 @@ impl Context {
         base: u32,
         top: u32,
     ) -> Result<(), MoveFault>
-        ensures answer { λ r. ⌜ r ≡ frameAnswer zeroContent (K·Kind .imageOf) (K·Kind .contentOf) (seen (now (self .entry)) (now (slots .entry)) (S·Store .meaning (now (store .entry)))) base top ⌝ }
+        ensures answer { λ r. ⌜ r ≡ frameAnswer zeroContent (K·Kind .imageOf) (K·Kind .contentOf)
+            (seen (now (self .entry)) (now (slots .entry)) (S·Store .meaning (now (store .entry)))) base top ⌝ }
         ensures after { λ _. ⌜ seen (now (self .exit)) (now (slots .exit)) (S·Store .meaning (now (store .exit)))
-            ≡ frameAfter zeroContent (K·Kind .imageOf) (K·Kind .contentOf) (seen (now (self .entry)) (now (slots .entry)) (S·Store .meaning (now (store .entry)))) base top ⌝ }
+            ≡ frameAfter zeroContent (K·Kind .imageOf) (K·Kind .contentOf) (seen (now (self .entry)) (now (slots .entry))
+            (S·Store .meaning (now (store .entry)))) base top ⌝ }
     {
         let stored = self.stack.stored();
         let floor = Context::floor(top, slots.len() as u64);
@@ -135,9 +139,11 @@ impl Context {
         word: u64,
     ) -> Result<(), MoveFault>
         requires { ⌜ lawfulWord word ≡ true ⌝ ∗ ⌜ base + sofOf word ≤ capacityOf (now self .stack .size) ⌝ }
-        ensures answer { λ r. ⌜ r ≡ frameAnswer zeroContent (K·Kind .imageOf) (K·Kind .contentOf) (seen (now (self .entry)) (now (slots .entry)) (S·Store .meaning (now (store .entry)))) base (base + sofOf word) ⌝ }
+        ensures answer { λ r. ⌜ r ≡ frameAnswer zeroContent (K·Kind .imageOf) (K·Kind .contentOf)
+            (seen (now (self .entry)) (now (slots .entry)) (S·Store .meaning (now (store .entry)))) base (base + sofOf word) ⌝ }
         ensures after { λ _. ⌜ seen (now (self .exit)) (now (slots .exit)) (S·Store .meaning (now (store .exit)))
-            ≡ backAfter zeroContent (K·Kind .imageOf) (K·Kind .contentOf) (seen (now (self .entry)) (now (slots .entry)) (S·Store .meaning (now (store .entry)))) base word ⌝ }
+            ≡ backAfter zeroContent (K·Kind .imageOf) (K·Kind .contentOf) (seen (now (self .entry)) (now (slots .entry))
+            (S·Store .meaning (now (store .entry)))) base word ⌝ }
     {
         let old_top = self.top();
         let lo = self.stack.lo;
@@ -173,7 +179,8 @@ impl Context {
         slots: &mut [Slot<K>],
         store: &mut S,
     ) -> Result<(), Refusal>
-        ensures answer { λ r. ⌜ r ≡ backToAnswer zeroContent (K·Kind .imageOf) (K·Kind .contentOf) (seen (now (self .entry)) (now (slots .entry)) (S·Store .meaning (now (store .entry))))
+        ensures answer { λ r. ⌜ r ≡ backToAnswer zeroContent (K·Kind .imageOf) (K·Kind .contentOf)
+            (seen (now (self .entry)) (now (slots .entry)) (S·Store .meaning (now (store .entry))))
             (returnBase (now (self .entry) .stack)) (now (self .entry) .stack .previous) ⌝ }
         ensures after { λ _. ⌜ seen (now (self .exit)) (now (slots .exit)) (S·Store .meaning (now (store .exit)))
             ≡ backTo zeroContent (K·Kind .imageOf) (K·Kind .contentOf) (seen (now (self .entry)) (now (slots .entry)) (S·Store .meaning (now (store .entry))))
@@ -203,7 +210,8 @@ impl Context {
         slots: &mut [Slot<K>],
         store: &mut S,
     ) -> Result<(), Refusal>
-        ensures answer { λ r. ⌜ r ≡ backToAnswer zeroContent (K·Kind .imageOf) (K·Kind .contentOf) (seen (now (self .entry)) (now (slots .entry)) (S·Store .meaning (now (store .entry))))
+        ensures answer { λ r. ⌜ r ≡ backToAnswer zeroContent (K·Kind .imageOf) (K·Kind .contentOf)
+            (seen (now (self .entry)) (now (slots .entry)) (S·Store .meaning (now (store .entry))))
             (restoreBase (now (self .entry) .stack)) (now (self .entry) .stack .saved) ⌝ }
         ensures after { λ _. ⌜ seen (now (self .exit)) (now (slots .exit)) (S·Store .meaning (now (store .exit)))
             ≡ backTo zeroContent (K·Kind .imageOf) (K·Kind .contentOf) (seen (now (self .entry)) (now (slots .entry)) (S·Store .meaning (now (store .entry))))
@@ -236,7 +244,8 @@ impl Context {
         store: &S,
         words: u64,
     ) -> Result<(), Refusal>
-        ensures answer { λ r. ⌜ r ≡ loadAnswer (K·Kind .contentOf) (seen (now (self .entry)) (now (slots .entry)) (S·Store .meaning (now (store .entry)))) words ⌝ }
+        ensures answer { λ r. ⌜ r ≡ loadAnswer (K·Kind .contentOf) (seen (now (self .entry)) (now (slots .entry))
+            (S·Store .meaning (now (store .entry)))) words ⌝ }
         ensures after { λ _. ⌜ seen (now (self .exit)) (now (slots .exit)) (S·Store .meaning (now (store .entry)))
             ≡ loadAfter (K·Kind .contentOf) (seen (now (self .entry)) (now (slots .entry)) (S·Store .meaning (now (store .entry)))) words ⌝ }
     {

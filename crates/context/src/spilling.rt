@@ -188,8 +188,12 @@ impl Context {
             ≡ earlyFillRun (K·Kind .contentOf) (seen (now (self .entry)) (now (slots .entry)) (S·Store .meaning (now (store .entry)))) .answer ⌝ }
         ensures after { λ _. ⌜ seen (now (self .exit)) (now (slots .exit)) (S·Store .meaning (now (store .entry)))
             ≡ ifMoved (earlyFillRun (K·Kind .contentOf) (seen (now (self .entry)) (now (slots .entry)) (S·Store .meaning (now (store .entry)))) .answer)
-            (earlyFilled (seen (now (self .entry)) (now (slots .entry)) (S·Store .meaning (now (store .entry)))) (earlyFillRun (K·Kind .contentOf) (seen (now (self .entry)) (now (slots .entry)) (S·Store .meaning (now (store .entry))))))
-            (withFile (seen (now (self .entry)) (now (slots .entry)) (S·Store .meaning (now (store .entry)))) (earlyFillRun (K·Kind .contentOf) (seen (now (self .entry)) (now (slots .entry)) (S·Store .meaning (now (store .entry)))) .file)) ⌝ }
+            (earlyFilled (seen (now (self .entry)) (now (slots .entry))
+            (S·Store .meaning (now (store .entry)))) (earlyFillRun (K·Kind .contentOf) (seen (now (self .entry)) (now (slots .entry))
+            (S·Store .meaning (now (store .entry))))))
+            (withFile (seen (now (self .entry)) (now (slots .entry))
+            (S·Store .meaning (now (store .entry)))) (earlyFillRun (K·Kind .contentOf) (seen (now (self .entry)) (now (slots .entry))
+            (S·Store .meaning (now (store .entry)))) .file)) ⌝ }
     {
         let lo = self.stack.lo;
         let mut at = self.stack.cursor(self.counts);

@@ -35,7 +35,11 @@ impl Engine {
     // A new engine, for files of so many slots over stores of so many words: slots a multiple of 16 from 96 to 2,048,
     // words a multiple of 64 from 64 to 65,536.
     pub fn new(slots: u64, words: u64) -> Result<Engine, Refusal>
-        ensures { λ r. ⌜ elim r [ Ok e ↦ (canMake slots words ≡ true) × (e .machine ≡ newMachine slots words) | Err e ↦ (canMake slots words ≡ false) × (e ≡ WrongHost) ] ⌝ }
+        ensures { λ r. ⌜ elim r [
+          | Ok e ↦ (canMake slots words ≡ true) × (e .machine ≡ newMachine slots words)
+          | Err e ↦ (canMake slots words
+              ≡ false) × (e ≡ WrongHost)
+        ] ⌝ }
     {
         if slots % 16 != 0 || slots < 96 || slots > 2048 {
             return Err(Refusal::Host);
@@ -68,9 +72,11 @@ impl Engine {
         store: &mut S,
         instruction: Instruction,
     ) -> Result<Answer, Refusal>
-        ensures answer { λ r. ⌜ r ≡ stepAnswer zeroContent (K·Kind .imageOf) (K·Kind .contentOf) (hosted (now (self .entry) .machine) (now (slots .entry)) (S·Store .meaning (now (store .entry)))) instruction ⌝ }
+        ensures answer { λ r. ⌜ r ≡ stepAnswer zeroContent (K·Kind .imageOf) (K·Kind .contentOf)
+            (hosted (now (self .entry) .machine) (now (slots .entry)) (S·Store .meaning (now (store .entry)))) instruction ⌝ }
         ensures after { λ _. ⌜ hosted (now (self .exit) .machine) (now (slots .exit)) (S·Store .meaning (now (store .exit)))
-            ≡ stepAfter zeroContent (K·Kind .imageOf) (K·Kind .contentOf) (K·Kind .sumOf) (hosted (now (self .entry) .machine) (now (slots .entry)) (S·Store .meaning (now (store .entry)))) instruction ⌝ }
+            ≡ stepAfter zeroContent (K·Kind .imageOf) (K·Kind .contentOf) (K·Kind .sumOf)
+            (hosted (now (self .entry) .machine) (now (slots .entry)) (S·Store .meaning (now (store .entry)))) instruction ⌝ }
     {
         if slots.len() as u64 != self.machine.slots || store.len() != self.machine.words {
             return Err(Refusal::Host);
@@ -89,9 +95,11 @@ impl Engine {
         instruction: Instruction,
     ) -> Result<Answer, Refusal>
         requires { ⌜ inRange instruction ≡ true ⌝ }
-        ensures answer { λ r. ⌜ r ≡ ruled zeroContent (K·Kind .imageOf) (K·Kind .contentOf) (hosted (now (self .entry) .machine) (now (slots .entry)) (S·Store .meaning (now (store .entry)))) instruction ⌝ }
+        ensures answer { λ r. ⌜ r ≡ ruled zeroContent (K·Kind .imageOf) (K·Kind .contentOf)
+            (hosted (now (self .entry) .machine) (now (slots .entry)) (S·Store .meaning (now (store .entry)))) instruction ⌝ }
         ensures after { λ _. ⌜ hosted (now (self .exit) .machine) (now (slots .exit)) (S·Store .meaning (now (store .exit)))
-            ≡ ruledAfter zeroContent (K·Kind .imageOf) (K·Kind .contentOf) (K·Kind .sumOf) (hosted (now (self .entry) .machine) (now (slots .entry)) (S·Store .meaning (now (store .entry)))) instruction ⌝ }
+            ≡ ruledAfter zeroContent (K·Kind .imageOf) (K·Kind .contentOf) (K·Kind .sumOf)
+            (hosted (now (self .entry) .machine) (now (slots .entry)) (S·Store .meaning (now (store .entry)))) instruction ⌝ }
     {
         match instruction {
             Instruction::Begin {

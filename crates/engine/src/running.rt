@@ -34,10 +34,12 @@ impl Engine {
         sol: u64,
         sor: u64,
     ) -> Result<Answer, Refusal>
-        ensures answer { λ r. ⌜ r ≡ answered Marker (allocAnswer zeroContent (K·Kind .imageOf) (sceneOf (hosted (now (self .entry) .machine) (now (slots .entry)) (S·Store .meaning (now (store .entry))))) sof sol sor) ⌝ }
+        ensures answer { λ r. ⌜ r ≡ answered Marker (allocAnswer zeroContent (K·Kind .imageOf) (sceneOf
+            (hosted (now (self .entry) .machine) (now (slots .entry)) (S·Store .meaning (now (store .entry))))) sof sol sor) ⌝ }
         ensures after { λ _. ⌜ hosted (now (self .exit) .machine) (now (slots .exit)) (S·Store .meaning (now (store .exit)))
             ≡ lifted (hosted (now (self .entry) .machine) (now (slots .entry)) (S·Store .meaning (now (store .entry))))
-            (allocAfter zeroContent (K·Kind .imageOf) (sceneOf (hosted (now (self .entry) .machine) (now (slots .entry)) (S·Store .meaning (now (store .entry))))) sof sol sor) ⌝ }
+            (allocAfter zeroContent (K·Kind .imageOf) (sceneOf (hosted (now (self .entry) .machine) (now (slots .entry))
+            (S·Store .meaning (now (store .entry))))) sof sol sor) ⌝ }
     {
         let mut context = self.context();
         let previous = context.alloc(slots, store, sof, sol, sor);
@@ -61,10 +63,15 @@ impl Engine {
         store: &mut S,
     ) -> Result<Answer, Refusal>
         ensures answer { λ r. ⌜ r ≡ answered (λ _. Done) (backToAnswer zeroContent (K·Kind .imageOf) (K·Kind .contentOf)
-            (sceneOf (hosted (now (self .entry) .machine) (now (slots .entry)) (S·Store .meaning (now (store .entry))))) (returnBase (recordAt (now (self .entry) .machine) (now (self .entry) .machine .current))) ((recordAt (now (self .entry) .machine) (now (self .entry) .machine .current)) .previous)) ⌝ }
+            (sceneOf (hosted (now (self .entry) .machine) (now (slots .entry))
+            (S·Store .meaning (now (store .entry))))) (returnBase (recordAt (now (self .entry) .machine)
+            (now (self .entry) .machine .current))) ((recordAt (now (self .entry) .machine) (now (self .entry) .machine .current)) .previous)) ⌝ }
         ensures after { λ _. ⌜ hosted (now (self .exit) .machine) (now (slots .exit)) (S·Store .meaning (now (store .exit)))
-            ≡ lifted (hosted (now (self .entry) .machine) (now (slots .entry)) (S·Store .meaning (now (store .entry)))) (backTo zeroContent (K·Kind .imageOf) (K·Kind .contentOf)
-            (sceneOf (hosted (now (self .entry) .machine) (now (slots .entry)) (S·Store .meaning (now (store .entry))))) (returnBase (recordAt (now (self .entry) .machine) (now (self .entry) .machine .current))) ((recordAt (now (self .entry) .machine) (now (self .entry) .machine .current)) .previous)) ⌝ }
+            ≡ lifted (hosted (now (self .entry) .machine) (now (slots .entry))
+            (S·Store .meaning (now (store .entry)))) (backTo zeroContent (K·Kind .imageOf) (K·Kind .contentOf)
+            (sceneOf (hosted (now (self .entry) .machine) (now (slots .entry))
+            (S·Store .meaning (now (store .entry))))) (returnBase (recordAt (now (self .entry) .machine)
+            (now (self .entry) .machine .current))) ((recordAt (now (self .entry) .machine) (now (self .entry) .machine .current)) .previous)) ⌝ }
     {
         let mut context = self.context();
         let returned = context.return_to_caller(slots, store);
@@ -91,9 +98,11 @@ impl Engine {
         word: u64,
         nat: u64,
     ) -> Result<Answer, Refusal>
-        ensures answer { λ r. ⌜ r ≡ answered (λ _. Done) (oneRegister (recordAt (now (self .entry) .machine) (now (self .entry) .machine .current)) register) ⌝ }
+        ensures answer { λ r. ⌜ r ≡ answered (λ _. Done) (oneRegister (recordAt (now (self .entry) .machine)
+            (now (self .entry) .machine .current)) register) ⌝ }
         ensures file { λ _. ⌜ now (slots .exit)
-            ≡ writeFile (K·Kind .contentOf) (recordAt (now (self .entry) .machine) (now (self .entry) .machine .current)) (now (slots .entry)) register word (eqb nat 1) ⌝ }
+            ≡ writeFile (K·Kind .contentOf) (recordAt (now (self .entry) .machine) (now (self .entry) .machine .current))
+            (now (slots .entry)) register word (eqb nat 1) ⌝ }
     {
         self.context().write(slots, register, word, nat == 1)?;
         Ok(Answer::Done)
@@ -105,8 +114,10 @@ impl Engine {
         target: u64,
         source: u64,
     ) -> Result<Answer, Refusal>
-        ensures answer { λ r. ⌜ r ≡ answered (λ _. Done) (twoRegisters (recordAt (now (self .entry) .machine) (now (self .entry) .machine .current)) target source) ⌝ }
-        ensures file { λ _. ⌜ now (slots .exit) ≡ copyFile zeroContent (recordAt (now (self .entry) .machine) (now (self .entry) .machine .current)) (now (slots .entry)) target source ⌝ }
+        ensures answer { λ r. ⌜ r ≡ answered (λ _. Done) (twoRegisters (recordAt (now (self .entry) .machine)
+            (now (self .entry) .machine .current)) target source) ⌝ }
+        ensures file { λ _. ⌜ now (slots .exit) ≡ copyFile zeroContent (recordAt (now (self .entry) .machine)
+            (now (self .entry) .machine .current)) (now (slots .entry)) target source ⌝ }
     {
         self.context().copy(slots, target, source)?;
         Ok(Answer::Done)
@@ -119,16 +130,19 @@ impl Engine {
         left: u64,
         right: u64,
     ) -> Result<Answer, Refusal>
-        ensures answer { λ r. ⌜ r ≡ answered (λ _. Done) (threeRegisters (recordAt (now (self .entry) .machine) (now (self .entry) .machine .current)) target left right) ⌝ }
+        ensures answer { λ r. ⌜ r ≡ answered (λ _. Done) (threeRegisters (recordAt (now (self .entry) .machine)
+            (now (self .entry) .machine .current)) target left right) ⌝ }
         ensures file { λ _. ⌜ now (slots .exit)
-            ≡ addFile zeroContent (K·Kind .sumOf) (recordAt (now (self .entry) .machine) (now (self .entry) .machine .current)) (now (slots .entry)) target left right ⌝ }
+            ≡ addFile zeroContent (K·Kind .sumOf) (recordAt (now (self .entry) .machine) (now (self .entry) .machine .current))
+            (now (slots .entry)) target left right ⌝ }
     {
         self.context().add(slots, target, left, right)?;
         Ok(Answer::Done)
     }
 
     pub(crate) fn read<K: Kind>(&self, slots: &[Slot<K>], register: u64) -> Result<Answer, Refusal>
-        ensures { λ r. ⌜ r ≡ answered (shownAs (K·Kind .imageOf)) (readAnswer zeroContent (recordAt (now (self .entry) .machine) (now (self .entry) .machine .current)) (now (slots .entry)) register) ⌝ }
+        ensures { λ r. ⌜ r ≡ answered (shownAs (K·Kind .imageOf)) (readAnswer zeroContent (recordAt (now (self .entry) .machine)
+            (now (self .entry) .machine .current)) (now (slots .entry)) register) ⌝ }
     {
         Ok(shown(self.context().read(slots, register)?))
     }
@@ -176,10 +190,15 @@ impl Engine {
         store: &mut S,
     ) -> Result<Answer, Refusal>
         ensures answer { λ r. ⌜ r ≡ answered (λ _. Done) (backToAnswer zeroContent (K·Kind .imageOf) (K·Kind .contentOf)
-            (sceneOf (hosted (now (self .entry) .machine) (now (slots .entry)) (S·Store .meaning (now (store .entry))))) (restoreBase (recordAt (now (self .entry) .machine) (now (self .entry) .machine .current))) ((recordAt (now (self .entry) .machine) (now (self .entry) .machine .current)) .saved)) ⌝ }
+            (sceneOf (hosted (now (self .entry) .machine) (now (slots .entry))
+            (S·Store .meaning (now (store .entry))))) (restoreBase (recordAt (now (self .entry) .machine)
+            (now (self .entry) .machine .current))) ((recordAt (now (self .entry) .machine) (now (self .entry) .machine .current)) .saved)) ⌝ }
         ensures after { λ r. ⌜ hosted (now (self .exit) .machine) (now (slots .exit)) (S·Store .meaning (now (store .exit)))
-            ≡ leaves (hosted (now (self .entry) .machine) (now (slots .entry)) (S·Store .meaning (now (store .entry)))) (backTo zeroContent (K·Kind .imageOf) (K·Kind .contentOf)
-            (sceneOf (hosted (now (self .entry) .machine) (now (slots .entry)) (S·Store .meaning (now (store .entry))))) (restoreBase (recordAt (now (self .entry) .machine) (now (self .entry) .machine .current))) ((recordAt (now (self .entry) .machine) (now (self .entry) .machine .current)) .saved)) r Running ⌝ }
+            ≡ leaves (hosted (now (self .entry) .machine) (now (slots .entry))
+            (S·Store .meaning (now (store .entry)))) (backTo zeroContent (K·Kind .imageOf) (K·Kind .contentOf)
+            (sceneOf (hosted (now (self .entry) .machine) (now (slots .entry))
+            (S·Store .meaning (now (store .entry))))) (restoreBase (recordAt (now (self .entry) .machine)
+            (now (self .entry) .machine .current))) ((recordAt (now (self .entry) .machine) (now (self .entry) .machine .current)) .saved)) r Running ⌝ }
     {
         let mut context = self.context();
         let restored = context.restore(slots, store);
@@ -195,10 +214,14 @@ impl Engine {
         slots: &[Slot<K>],
         store: &mut S,
     ) -> Result<Answer, Refusal>
-        ensures answer { λ r. ⌜ r ≡ answered flushedAs (flushAnswer zeroContent (K·Kind .imageOf) (sceneOf (hosted (now (self .entry) .machine) (now (slots .entry)) (S·Store .meaning (now (store .entry)))))) ⌝ }
+        ensures answer { λ r. ⌜ r ≡ answered flushedAs (flushAnswer zeroContent (K·Kind .imageOf) (sceneOf
+            (hosted (now (self .entry) .machine) (now (slots .entry)) (S·Store .meaning (now (store .entry)))))) ⌝ }
         ensures after { λ r. ⌜ hosted (now (self .exit) .machine) (now (slots .entry)) (S·Store .meaning (now (store .exit)))
-            ≡ leaves (hosted (now (self .entry) .machine) (now (slots .entry)) (S·Store .meaning (now (store .entry)))) (spilled (sceneOf (hosted (now (self .entry) .machine) (now (slots .entry)) (S·Store .meaning (now (store .entry)))))
-            (flushRun zeroContent (K·Kind .imageOf) (sceneOf (hosted (now (self .entry) .machine) (now (slots .entry)) (S·Store .meaning (now (store .entry))))))) r (afterFlush (now (self .entry) .machine .state)) ⌝ }
+            ≡ leaves (hosted (now (self .entry) .machine) (now (slots .entry))
+            (S·Store .meaning (now (store .entry)))) (spilled (sceneOf (hosted (now (self .entry) .machine) (now (slots .entry))
+            (S·Store .meaning (now (store .entry)))))
+            (flushRun zeroContent (K·Kind .imageOf) (sceneOf (hosted (now (self .entry) .machine) (now (slots .entry))
+            (S·Store .meaning (now (store .entry))))))) r (afterFlush (now (self .entry) .machine .state)) ⌝ }
     {
         let mut context = self.context();
         let flushed = context.flush(slots, store);
@@ -215,10 +238,14 @@ impl Engine {
         store: &mut S,
     ) -> Result<Answer, Refusal>
         ensures answer { λ r. ⌜ r ≡ cond (spillsEarly (hosted (now (self .entry) .machine) (now (slots .entry)) (S·Store .meaning (now (store .entry)))))
-            (answered (λ _. Done) (earlySpillAnswer zeroContent (K·Kind .imageOf) (sceneOf (hosted (now (self .entry) .machine) (now (slots .entry)) (S·Store .meaning (now (store .entry))))))) (Err Mode) ⌝ }
+            (answered (λ _. Done) (earlySpillAnswer zeroContent (K·Kind .imageOf) (sceneOf
+            (hosted (now (self .entry) .machine) (now (slots .entry)) (S·Store .meaning (now (store .entry))))))) (Err Mode) ⌝ }
         ensures after { λ _. ⌜ hosted (now (self .exit) .machine) (now (slots .entry)) (S·Store .meaning (now (store .exit)))
-            ≡ cond (spillsEarly (hosted (now (self .entry) .machine) (now (slots .entry)) (S·Store .meaning (now (store .entry))))) (lifted (hosted (now (self .entry) .machine) (now (slots .entry)) (S·Store .meaning (now (store .entry))))
-            (earlySpillAfter zeroContent (K·Kind .imageOf) (sceneOf (hosted (now (self .entry) .machine) (now (slots .entry)) (S·Store .meaning (now (store .entry))))))) (hosted (now (self .entry) .machine) (now (slots .entry)) (S·Store .meaning (now (store .entry)))) ⌝ }
+            ≡ cond (spillsEarly (hosted (now (self .entry) .machine) (now (slots .entry))
+            (S·Store .meaning (now (store .entry))))) (lifted (hosted (now (self .entry) .machine) (now (slots .entry))
+            (S·Store .meaning (now (store .entry))))
+            (earlySpillAfter zeroContent (K·Kind .imageOf) (sceneOf (hosted (now (self .entry) .machine) (now (slots .entry))
+            (S·Store .meaning (now (store .entry))))))) (hosted (now (self .entry) .machine) (now (slots .entry)) (S·Store .meaning (now (store .entry)))) ⌝ }
     {
         if self.machine.mode % 2 != 1 {
             return Err(Refusal::Mode);
@@ -237,10 +264,14 @@ impl Engine {
         store: &S,
     ) -> Result<Answer, Refusal>
         ensures answer { λ r. ⌜ r ≡ cond (fillsEarly (hosted (now (self .entry) .machine) (now (slots .entry)) (S·Store .meaning (now (store .entry)))))
-            (answered (λ _. Done) (earlyFillAnswer (K·Kind .contentOf) (sceneOf (hosted (now (self .entry) .machine) (now (slots .entry)) (S·Store .meaning (now (store .entry))))))) (Err Mode) ⌝ }
+            (answered (λ _. Done) (earlyFillAnswer (K·Kind .contentOf) (sceneOf (hosted (now (self .entry) .machine) (now (slots .entry))
+            (S·Store .meaning (now (store .entry))))))) (Err Mode) ⌝ }
         ensures after { λ _. ⌜ hosted (now (self .exit) .machine) (now (slots .exit)) (S·Store .meaning (now (store .entry)))
-            ≡ cond (fillsEarly (hosted (now (self .entry) .machine) (now (slots .entry)) (S·Store .meaning (now (store .entry))))) (lifted (hosted (now (self .entry) .machine) (now (slots .entry)) (S·Store .meaning (now (store .entry))))
-            (earlyFillAfter (K·Kind .contentOf) (sceneOf (hosted (now (self .entry) .machine) (now (slots .entry)) (S·Store .meaning (now (store .entry))))))) (hosted (now (self .entry) .machine) (now (slots .entry)) (S·Store .meaning (now (store .entry)))) ⌝ }
+            ≡ cond (fillsEarly (hosted (now (self .entry) .machine) (now (slots .entry))
+            (S·Store .meaning (now (store .entry))))) (lifted (hosted (now (self .entry) .machine) (now (slots .entry))
+            (S·Store .meaning (now (store .entry))))
+            (earlyFillAfter (K·Kind .contentOf) (sceneOf (hosted (now (self .entry) .machine) (now (slots .entry))
+            (S·Store .meaning (now (store .entry))))))) (hosted (now (self .entry) .machine) (now (slots .entry)) (S·Store .meaning (now (store .entry)))) ⌝ }
     {
         if self.machine.mode / 2 % 2 != 1 {
             return Err(Refusal::Mode);
@@ -258,10 +289,12 @@ impl Engine {
         store: &S,
         words: u64,
     ) -> Result<Answer, Refusal>
-        ensures answer { λ r. ⌜ r ≡ answered (λ _. Done) (loadAnswer (K·Kind .contentOf) (sceneOf (hosted (now (self .entry) .machine) (now (slots .entry)) (S·Store .meaning (now (store .entry))))) words) ⌝ }
+        ensures answer { λ r. ⌜ r ≡ answered (λ _. Done) (loadAnswer (K·Kind .contentOf) (sceneOf
+            (hosted (now (self .entry) .machine) (now (slots .entry)) (S·Store .meaning (now (store .entry))))) words) ⌝ }
         ensures after { λ r. ⌜ hosted (now (self .exit) .machine) (now (slots .exit)) (S·Store .meaning (now (store .entry)))
             ≡ leaves (hosted (now (self .entry) .machine) (now (slots .entry)) (S·Store .meaning (now (store .entry))))
-            (loadAfter (K·Kind .contentOf) (sceneOf (hosted (now (self .entry) .machine) (now (slots .entry)) (S·Store .meaning (now (store .entry))))) words) r Covered ⌝ }
+            (loadAfter (K·Kind .contentOf) (sceneOf (hosted (now (self .entry) .machine) (now (slots .entry))
+            (S·Store .meaning (now (store .entry))))) words) r Covered ⌝ }
     {
         let mut context = self.context();
         let loaded = context.load(slots, store, words);

@@ -187,7 +187,8 @@ impl Engine {
 
     // What the question of the state shows of the context that is driven.
     fn shown(&self, state: u64) -> Answer
-        ensures { λ r. ⌜ r ≡ StateAnswer state (now (self .entry) .machine .current) (driven (now (self .entry) .machine) .base) (driven (now (self .entry) .machine) .marker) (bspOf (driven (now (self .entry) .machine))) ⌝ }
+        ensures { λ r. ⌜ r ≡ StateAnswer state (now (self .entry) .machine .current) (driven (now (self .entry) .machine) .base) (driven
+            (now (self .entry) .machine) .marker) (bspOf (driven (now (self .entry) .machine))) ⌝ }
     {
         let context = self.context();
         Answer::State {

@@ -63,7 +63,11 @@ pub fn figures() -> ([u64; 4], u64)
 }
 
 // The figures of frame markers: places under a rotation, fields of two words, and which rotations are lawful.
-pub fn marker_figures() -> ((Option<u32>, Option<u32>, Option<u32>), ([u32; 4], [u32; 4]), (bool, bool))
+pub fn marker_figures() -> (
+    (Option<u32>, Option<u32>, Option<u32>),
+    ([u32; 4], [u32; 4]),
+    (bool, bool),
+)
     ensures places { λ r. ⌜ (r .0 .0 ≡ Some 7) × (r .0 .1 ≡ Some 0) × (r .0 .2 ≡ Some 8) ⌝ }
     ensures words { λ r. ⌜ (r .1 .0 ≡ 4 ∷ 2 ∷ 0 ∷ 0 ∷ []) × (r .1 .1 ≡ 96 ∷ 96 ∷ 12 ∷ 0 ∷ []) ⌝ }
     ensures lawful { λ r. ⌜ (r .2 .0 ≡ true) × (r .2 .1 ≡ false) ⌝ }

@@ -24,10 +24,10 @@ use Rattle.text.specs.Sessions.{LineRuns, Runs, printedLines, grantedIn, refus
 module _ {C : Type 0} (nought : C) (image : C → ℕ) (content : ℕ → C) (sum : C → C → C) where
   -- ls are the lines that remain, the first of them l
   pub runs-more : (h0 h k : Host C) (all ls rest : List (List ℕ)) (l : List ℕ) (n : ℕ) (before outs : List Outcome) (r : Result Answer RunFault) (o : Outcome)
-    → ls ≡ l ∷ rest
-    → ((os : List Outcome) (x : Host C) → Runs nought image content sum h ls (n + 1) os x → Runs nought image content sum h0 all 1 (before ++ os) x)
-    → LineRuns nought image content sum h l (n + 1) r k → o ≡ outcomeOf r → outs ≡ before ++ (o ∷ [])
-    → (os : List Outcome) (x : Host C) → Runs nought image content sum k rest (n + 1 + 1) os x → Runs nought image content sum h0 all 1 (outs ++ os) x
+      → ls ≡ l ∷ rest
+      → ((os : List Outcome) (x : Host C) → Runs nought image content sum h ls (n + 1) os x → Runs nought image content sum h0 all 1 (before ++ os) x)
+      → LineRuns nought image content sum h l (n + 1) r k → o ≡ outcomeOf r → outs ≡ before ++ (o ∷ [])
+      → (os : List Outcome) (x : Host C) → Runs nought image content sum k rest (n + 1 + 1) os x → Runs nought image content sum h0 all 1 (outs ++ os) x
   runs-more h0 h k all ls rest l n before outs r o e inv lr eo eouts os x run =
       let whole = inv (o ∷ os) x (subst (λ y. Runs nought image content sum h y (n + 1) (o ∷ os) x) (sym e) (r, k, lr, eo, run)) in
       subst (λ y. Runs nought image content sum h0 all 1 y x) (sym (ap (λ y. y ++ os) eouts ∙ append-assoc before (o ∷ []) os)) whole
@@ -37,8 +37,8 @@ module _ {C : Type 0} (nought : C) (image : C → ℕ) (content : ℕ → C) (su
   no-bytes (b ∷ bs) h = let z : ⊥ = omega (arith, h) in absurd z
 
   pub runs-all : (h0 h : Host C) (all : List (List ℕ)) (rest : List ℕ) (n : ℕ) (outs : List Outcome) → length rest ≡ 0
-    → ((os : List Outcome) (x : Host C) → Runs nought image content sum h (linesOf rest) (n + 1) os x → Runs nought image content sum h0 all 1 (outs ++ os) x)
-    → Runs nought image content sum h0 all 1 outs h
+      → ((os : List Outcome) (x : Host C) → Runs nought image content sum h (linesOf rest) (n + 1) os x → Runs nought image content sum h0 all 1 (outs ++ os) x)
+      → Runs nought image content sum h0 all 1 outs h
   runs-all h0 h all rest n outs e inv =
       subst (λ y. Runs nought image content sum h0 all 1 y h) (append-nil outs)
       (inv [] h (subst (λ y. Runs nought image content sum h y (n + 1) [] h) (sym (no-bytes rest e)) refl))
@@ -46,7 +46,7 @@ module _ {C : Type 0} (nought : C) (image : C → ℕ) (content : ℕ → C) (su
 -- i outcomes are printed, d stands past the end
 module _ (os : List Outcome) (i : ℕ) (d : Outcome) (h : i < length os) where
   pub printed-more : (before now whole : List ℕ) → now ≡ before ++ printed (getD os i d) → before ++ printedLines (drop i os) ≡ whole
-    → now ++ printedLines (drop (i + 1) os) ≡ whole
+      → now ++ printedLines (drop (i + 1) os) ≡ whole
   printed-more before now whole e inv =
       let step : printedLines (drop i os) ≡ printed (getD os i d) ++ printedLines (drop (i + 1) os) = at-drop-more printedLines os i d h in
       ap (λ x. x ++ printedLines (drop (i + 1) os)) e ∙ append-assoc before (printed (getD os i d)) (printedLines (drop (i + 1) os)) ∙ ap (λ x. before ++ x) (sym step) ∙ inv
@@ -71,8 +71,8 @@ at-most-one false = (omega arith, omega arith)
 
 -- the end line after all the others
 pub printed-all : {Z : Type 0} (start items : List ℕ) (v w : Vec ℕ Z) (os : List Outcome) (g r : ℕ) (result : Result (Unit {0}) AllocError)
-  → items ≡ start ++ printedLines os → g ≡ grantedIn os → r ≡ refusedIn os → items ≡ vec-items v → Appends v w (printedEnd g r) result
-  → made result (λ _. vec-items w ≡ start ++ printedAll os)
+    → items ≡ start ++ printedLines os → g ≡ grantedIn os → r ≡ refusedIn os → items ≡ vec-items v → Appends v w (printedEnd g r) result
+    → made result (λ _. vec-items w ≡ start ++ printedAll os)
 printed-all start items v w os g r (Ok u) e eg er same a =
     a .items refl ∙ ap (λ x. x ++ printedEnd g r) (sym same ∙ e) ∙ append-assoc start (printedLines os) (printedEnd g r)
     ∙ ap (λ x. start ++ (printedLines os ++ printedEnd x r)) eg ∙ ap (λ x. start ++ (printedLines os ++ printedEnd (grantedIn os) x)) er

@@ -82,9 +82,11 @@ fn execute<K: Kind, S: Store>(
     instruction: Instruction,
     line: u64,
 ) -> Result<Answer, RunFault>
-    ensures answer { λ r. ⌜ r ≡ numbered (stepAnswer zeroContent (K·Kind .imageOf) (K·Kind .contentOf) (hosted (now (engine .entry) .machine) (now (slots .entry)) (S·Store .meaning (now (store .entry)))) instruction) line ⌝ }
+    ensures answer { λ r. ⌜ r ≡ numbered (stepAnswer zeroContent (K·Kind .imageOf) (K·Kind .contentOf)
+        (hosted (now (engine .entry) .machine) (now (slots .entry)) (S·Store .meaning (now (store .entry)))) instruction) line ⌝ }
     ensures after { λ _. ⌜ (hosted (now (engine .exit) .machine) (now (slots .exit)) (S·Store .meaning (now (store .exit))))
-        ≡ stepAfter zeroContent (K·Kind .imageOf) (K·Kind .contentOf) (K·Kind .sumOf) (hosted (now (engine .entry) .machine) (now (slots .entry)) (S·Store .meaning (now (store .entry)))) instruction ⌝ }
+        ≡ stepAfter zeroContent (K·Kind .imageOf) (K·Kind .contentOf) (K·Kind .sumOf)
+        (hosted (now (engine .entry) .machine) (now (slots .entry)) (S·Store .meaning (now (store .entry)))) instruction ⌝ }
 {
     on_line(engine.step(slots, store, instruction), line)
 }
@@ -97,7 +99,8 @@ pub fn execute_line<K: Kind, S: Store>(
     text: &[u8],
     line: u64,
 ) -> Result<Answer, RunFault>
-    ensures { λ r. ⌜ LineRuns zeroContent (K·Kind .imageOf) (K·Kind .contentOf) (K·Kind .sumOf) (hosted (now (engine .entry) .machine) (now (slots .entry)) (S·Store .meaning (now (store .entry))))
+    ensures { λ r. ⌜ LineRuns zeroContent (K·Kind .imageOf) (K·Kind .contentOf) (K·Kind .sumOf)
+        (hosted (now (engine .entry) .machine) (now (slots .entry)) (S·Store .meaning (now (store .entry))))
         (now (text .entry)) line r (hosted (now (engine .exit) .machine) (now (slots .exit)) (S·Store .meaning (now (store .exit)))) ⌝ }
 {
     let instruction = on_line(read_line(text).ok_or(Refusal::Unreadable), line)?;
@@ -227,7 +230,9 @@ pub fn run_session<K: Kind, S: Store>(
     ensures { λ r. ⌜ made r (λ v. SessionPrints zeroContent (K·Kind .imageOf) (K·Kind .contentOf) (K·Kind .sumOf)
         (now (slots .entry)) (S·Store .meaning (now (store .entry))) (now (input .entry)) (vec-items v) (now (slots .exit)) (S·Store .meaning (now (store .exit)))) ⌝ }
 {
-    let room = lines_at_most(input).saturating_add(1).saturating_mul(LONGEST_ANSWER);
+    let room = lines_at_most(input)
+        .saturating_add(1)
+        .saturating_mul(LONGEST_ANSWER);
     let mut out = Vec::with_capacity(heap, room)?;
     let outcomes = run_outcomes(heap, slots, store, input)?;
     print_session(&mut out, &outcomes)?;

@@ -14,9 +14,9 @@ Inv-loop-rest g l =
     (l .number + length (l .rest) ≤ length (l .input))
     × ((os : List Outcome) (after : Host (g .K .Denot))
     → Runs (g .K·Kind .zeroContent) (g .K·Kind .imageOf) (g .K·Kind .contentOf) (g .K·Kind .sumOf)
-      (hosted (l .engine .machine) (l .slots) (g .S·Store .meaning (l .store))) (linesOf (l .rest)) (l .number + 1) os after
+    (hosted (l .engine .machine) (l .slots) (g .S·Store .meaning (l .store))) (linesOf (l .rest)) (l .number + 1) os after
     → Runs (g .K·Kind .zeroContent) (g .K·Kind .imageOf) (g .K·Kind .contentOf) (g .K·Kind .sumOf)
-      (hosted (l .entry .engine .machine) (l .entry .slots) (g .S·Store .meaning (l .entry .store))) (linesOf (l .input)) 1 (vec-items (l .outcomes) ++ os) after)
+    (hosted (l .entry .engine .machine) (l .entry .slots) (g .S·Store .meaning (l .entry .store))) (linesOf (l .input)) 1 (vec-items (l .outcomes) ++ os) after)
 
 abbrev pub μ-loop-rest : given.MeasureT-loop-rest
 μ-loop-rest g l = length (l .rest)

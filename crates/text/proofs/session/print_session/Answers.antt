@@ -27,12 +27,13 @@ loop-outcome-again c =
     let one : c .count-granted .result ≡ cond b 1 0 = c .count-granted .ensures ∙ ap (λ x. cond x 1 0) (c .is-granted .ensures) in
     let none : c .count-refused .result ≡ cond b 0 1 = c .count-refused .ensures ∙ ap (λ x. cond (not x) 1 0) (c .is-granted-in-loop-outcome .ensures) ∙ flipped b in
     let few = at-most-one b in
-    let went = c .push-outcome .ensures .items (ap isOk (c .in-Continue-push-outcome .was tt)) in
-    (printed-more os i d lt (vec-items (c .loop-outcome .out)) (vec-items (c .push-outcome .last .out)) _ went (inv .0),
+    let went = c .push-outcome .ensures .items (ap isOk (c .in-Continue-push-outcome .was tt)) in (
+      printed-more os i d lt (vec-items (c .loop-outcome .out)) (vec-items (c .push-outcome .last .out)) _ went (inv .0),
       granted-more os i d lt (c .loop-outcome .granted) (c .count-granted .result) (grantedIn os) one (inv .1),
       refused-more os i d lt (c .loop-outcome .refused) (c .count-refused .result) (refusedIn os) none (inv .2),
       omega (arith, inv .3, one, few .0),
-      omega (arith, inv .4, none, few .1))
+      omega (arith, inv .4, none, few .1),
+    )
 
 pub returns : need.returns
 returns c =
