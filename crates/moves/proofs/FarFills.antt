@@ -29,4 +29,5 @@ pub far-answer : (m : Meaning) (context : ℕ) (c : Cursor) (p q : ℕ) (r : Mov
 far-answer m context c p q r s far same e f =
     let place : Place = record { movement = Fill; context = context; position = p } in
     let w = wordOf c p in
-    e ∙ ap (λ x. placed s (record { movement = Fill; context = context; position = x })) same ∙ ap (λ x. placed {T = Unit {0}} x place) f ∙ by-cases (isNear c p) (isOpen m w) (isOpen m (collectionOf w)) (refusalOf m) w (collectionOf w) place far
+    e ∙ ap (λ x. placed s (record { movement = Fill; context = context; position = x })) same ∙ ap (λ x. placed {T = Unit {0}} x place) f
+    ∙ by-cases (isNear c p) (isOpen m w) (isOpen m (collectionOf w)) (refusalOf m) w (collectionOf w) place far

@@ -18,6 +18,10 @@ use Rattle.moves.specs.Steps.{MoveResult, wroteOne, faultAt, askOf}
 abbrev pub storedBy : Cursor → ℕ
 storedBy c = positionsBelow (c .start) (c .bspstore)
 
+-- past a word, with the new RNAT
+abbrev pub pastWord : ℕ → Cursor → Cursor
+pastWord rnat c = record { start = c .start; bspstore = c .bspstore + 1; rnat = rnat; counts = wroteOne (c .counts) }
+
 -- past a collection, RNAT is clear
 abbrev pub pastCollection : Cursor → Cursor
 pastCollection c = record { start = c .start; bspstore = c .bspstore + 1; rnat = 0; counts = wroteOne (c .counts) }

@@ -1,6 +1,10 @@
 // Asking: is every word that a move needs open? The lowest shut one is told, before anything moves. Asking counts nothing.
 ghost use mathlib.Core.Path.{_≡_};
 ghost use Prim.Native.Nat.{_-_};
+ghost use lib.ListN.{length};
+ghost use Rattle.address.specs.AddressLaws.{Aligned};
+ghost use Rattle.moves.specs.declared.state.Movement.the-variants.{Spill, Fill, Lowering};
+ghost use Rattle.moves.specs.Told.{Told, Lowest, SpillNeeds, FillNeeds, LowerNeeds};
 ghost use Rattle.moves.specs.Steps.{askedAt};
 ghost use Rattle.moves.specs.Fills.{fillAnswer};
 ghost use Rattle.moves.specs.Lowers.{lowerAnswer};
@@ -30,7 +34,10 @@ fn ask<S: Store>(store: &S, word: u64, place: Place) -> Result<(), MoveFault>
 
 // The words that spills until `end` write.
 pub fn ask_spills<S: Store>(at: &Cursor, store: &S, end: u64, context: u64) -> Result<(), MoveFault>
-    ensures { λ r. ⌜ r ≡ spillsAsked (S·Store .meaning (now (store .entry))) context (now (at .entry) .start) (end - now (at .entry) .bspstore) (now (at .entry) .bspstore) ⌝ }
+    ensures answer { λ r. ⌜ r ≡ spillsAsked (S·Store .meaning (now (store .entry))) context
+            (now (at .entry) .start) (end - now (at .entry) .bspstore) (now (at .entry) .bspstore) ⌝ }
+    ensures told { λ r. ⌜ Told (S·Store .meaning (now (store .entry))) Spill context (SpillNeeds (now (at .entry) .start) (now (at .entry) .bspstore) end) r ⌝ }
+    ensures lowest { λ r. ⌜ Lowest (S·Store .meaning (now (store .entry))) (SpillNeeds (now (at .entry) .start) (now (at .entry) .bspstore) end) r ⌝ }
 {
     for word in at.bspstore..end {
         let position = positions_below(at.start, word);
@@ -72,7 +79,10 @@ pub fn ask_fills<S: Store>(
     high: u32,
     context: u64,
 ) -> Result<(), MoveFault>
-    ensures { λ r. ⌜ r ≡ fillsAsked (S·Store .meaning (now (store .entry))) context (now (at .entry)) (high - low) low ⌝ }
+    ensures answer { λ r. ⌜ r ≡ fillsAsked (S·Store .meaning (now (store .entry))) context (now (at .entry)) (high - low) low ⌝ }
+    ensures told { λ r. ⌜ Told (S·Store .meaning (now (store .entry))) Fill context (FillNeeds (now (at .entry)) low high) r ⌝ }
+    ensures lowest { λ r. ⌜ (Aligned (length (S·Store .meaning (now (store .entry)) .words)) → Lowest
+            (S·Store .meaning (now (store .entry))) (FillNeeds (now (at .entry)) low high) r) ⌝ }
 {
     for position in low..high {
         ask_fill(at, store, position, context)?;
@@ -87,6 +97,14 @@ pub fn ask_lowering<S: Store>(
     word: u64,
     context: u64,
 ) -> Result<(), MoveFault>
+    ensures answer { λ r. ⌜ r ≡ lowerAnswer (S·Store .meaning (now (store .entry))) context (now (at .entry)) word ⌝ }
+    ensures told { λ r. ⌜ Told (S·Store .meaning (now (store .entry))) Lowering context (LowerNeeds (now (at .entry)) word) r ⌝ }
+{
+    ask_lower(at, store, word, context)
+}
+
+// Asks about that word.
+fn ask_lower<S: Store>(at: &Cursor, store: &S, word: u64, context: u64) -> Result<(), MoveFault>
     ensures { λ r. ⌜ r ≡ lowerAnswer (S·Store .meaning (now (store .entry))) context (now (at .entry)) word ⌝ }
 {
     if !reads_collection(at, word) {

@@ -6,6 +6,7 @@ ghost use Rattle.register.specs.Slots.{registerPut};
 ghost use Rattle.moves.specs.Steps.{readMore};
 ghost use Rattle.store.specs.Rules.{isOpen, writeOf};
 ghost use Rattle.moves.specs.Fills.{wordOf, isNear, farOpen, farBits, farAnswer, filledFrom, fillOpen, fillAnswer, fillReads, filled, fillRun};
+ghost use Rattle.moves.specs.Refilled.{FillShows};
 use super::at_place;
 use super::state::Cursor;
 use super::state::MoveFault;
@@ -36,8 +37,11 @@ fn fill_near<K: Kind, S: Store>(
     position: u32,
 ) -> Result<(), StoreFault>
     ensures answer { λ r. ⌜ r ≡ writeOf (S·Store .meaning (now (store .entry))) (wordOf (now (at .entry)) position) ⌝ }
-    ensures file { λ _. ⌜ now (slots .exit) ≡ cond (isOpen (S·Store .meaning (now (store .entry))) (wordOf (now (at .entry)) position)) (registerPut (now (slots .entry)) position (filledFrom (K·Kind .contentOf) (now (at .entry) .rnat) (now (at .entry)) (S·Store .meaning (now (store .entry))) position)) (now (slots .entry)) ⌝ }
-    ensures cursor { λ _. ⌜ now (at .exit) ≡ cond (isOpen (S·Store .meaning (now (store .entry))) (wordOf (now (at .entry)) position)) (readMore 1 (now (at .entry))) (now (at .entry)) ⌝ }
+    ensures file { λ _. ⌜ now (slots .exit) ≡ cond (isOpen (S·Store .meaning (now (store .entry))) (wordOf (now (at .entry)) position))
+        (registerPut (now (slots .entry)) position (filledFrom (K·Kind .contentOf) (now (at .entry) .rnat) (now (at .entry)) (S·Store .meaning (now (store .entry))) position))
+        (now (slots .entry)) ⌝ }
+    ensures cursor { λ _. ⌜ now (at .exit) ≡ cond (isOpen (S·Store .meaning (now (store .entry))) (wordOf
+            (now (at .entry)) position)) (readMore 1 (now (at .entry))) (now (at .entry)) ⌝ }
 {
     let word = address_of(at.start, position);
     let image = store.read(word)?;
@@ -62,8 +66,11 @@ fn fill_far<K: Kind, S: Store>(
     position: u32,
 ) -> Result<(), StoreFault>
     ensures answer { λ r. ⌜ r ≡ farAnswer (S·Store .meaning (now (store .entry))) (wordOf (now (at .entry)) position) ⌝ }
-    ensures file { λ _. ⌜ now (slots .exit) ≡ cond (farOpen (S·Store .meaning (now (store .entry))) (wordOf (now (at .entry)) position)) (registerPut (now (slots .entry)) position (filledFrom (K·Kind .contentOf) (farBits (S·Store .meaning (now (store .entry))) (wordOf (now (at .entry)) position)) (now (at .entry)) (S·Store .meaning (now (store .entry))) position)) (now (slots .entry)) ⌝ }
-    ensures cursor { λ _. ⌜ now (at .exit) ≡ cond (farOpen (S·Store .meaning (now (store .entry))) (wordOf (now (at .entry)) position)) (readMore 2 (now (at .entry))) (now (at .entry)) ⌝ }
+    ensures file { λ _. ⌜ now (slots .exit) ≡ cond (farOpen (S·Store .meaning (now (store .entry))) (wordOf (now (at .entry)) position))
+        (registerPut (now (slots .entry)) position (filledFrom (K·Kind .contentOf) (farBits (S·Store .meaning (now (store .entry))) (wordOf (now (at .entry)) position))
+        (now (at .entry)) (S·Store .meaning (now (store .entry))) position)) (now (slots .entry)) ⌝ }
+    ensures cursor { λ _. ⌜ now (at .exit) ≡ cond (farOpen (S·Store .meaning (now (store .entry))) (wordOf
+            (now (at .entry)) position)) (readMore 2 (now (at .entry))) (now (at .entry)) ⌝ }
 {
     let word = address_of(at.start, position);
     let image = store.read(word)?;
@@ -90,8 +97,10 @@ pub fn fill<K: Kind, S: Store>(
     context: u64,
 ) -> Result<(), MoveFault>
     ensures answer { λ r. ⌜ r ≡ fillAnswer (S·Store .meaning (now (store .entry))) context (now (at .entry)) position ⌝ }
-    ensures file { λ _. ⌜ now (slots .exit) ≡ cond (fillOpen (now (at .entry)) (S·Store .meaning (now (store .entry))) position) (registerPut (now (slots .entry)) position (filled (K·Kind .contentOf) (now (at .entry)) (S·Store .meaning (now (store .entry))) position)) (now (slots .entry)) ⌝ }
-    ensures cursor { λ _. ⌜ now (at .exit) ≡ cond (fillOpen (now (at .entry)) (S·Store .meaning (now (store .entry))) position) (readMore (fillReads (now (at .entry)) position) (now (at .entry))) (now (at .entry)) ⌝ }
+    ensures file { λ _. ⌜ now (slots .exit) ≡ cond (fillOpen (now (at .entry)) (S·Store .meaning (now (store .entry))) position)
+        (registerPut (now (slots .entry)) position (filled (K·Kind .contentOf) (now (at .entry)) (S·Store .meaning (now (store .entry))) position)) (now (slots .entry)) ⌝ }
+    ensures cursor { λ _. ⌜ now (at .exit) ≡ cond (fillOpen (now (at .entry)) (S·Store .meaning (now (store .entry))) position)
+        (readMore (fillReads (now (at .entry)) position) (now (at .entry))) (now (at .entry)) ⌝ }
 {
     let place = Place {
         movement: Movement::Fill,
@@ -114,9 +123,15 @@ pub fn fill_run<K: Kind, S: Store>(
     high: u32,
     context: u64,
 ) -> Result<(), MoveFault>
-    ensures answer { λ r. ⌜ r ≡ fillRun (K·Kind .contentOf) (S·Store .meaning (now (store .entry))) context (high - low) low (now (at .entry)) (now (slots .entry)) .answer ⌝ }
-    ensures file { λ _. ⌜ now (slots .exit) ≡ fillRun (K·Kind .contentOf) (S·Store .meaning (now (store .entry))) context (high - low) low (now (at .entry)) (now (slots .entry)) .file ⌝ }
-    ensures cursor { λ _. ⌜ now (at .exit) ≡ fillRun (K·Kind .contentOf) (S·Store .meaning (now (store .entry))) context (high - low) low (now (at .entry)) (now (slots .entry)) .cursor ⌝ }
+    ensures answer { λ r. ⌜ r ≡ fillRun (K·Kind .contentOf) (S·Store .meaning (now (store .entry))) context (high - low) low (now (at .entry))
+            (now (slots .entry)) .answer ⌝ }
+    ensures file { λ _. ⌜ now (slots .exit) ≡ fillRun (K·Kind .contentOf)
+            (S·Store .meaning (now (store .entry))) context (high - low) low (now (at .entry)) (now (slots .entry)) .file ⌝ }
+    ensures cursor { λ _. ⌜ now (at .exit) ≡ fillRun (K·Kind .contentOf)
+            (S·Store .meaning (now (store .entry))) context (high - low) low (now (at .entry)) (now (slots .entry)) .cursor ⌝ }
+    ensures closed { λ r. ⌜ FillShows zeroContent (K·Kind .contentOf) context low high (now (at .entry))
+            (S·Store .meaning (now (store .entry))) (now (slots .entry)) r (now (at .exit))
+        (now (slots .exit)) ⌝ }
 {
     for position in low..high {
         fill(at, slots, store, position, context)?;

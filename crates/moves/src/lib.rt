@@ -7,6 +7,7 @@ mod fills;
 mod lowers;
 mod spills;
 mod state;
+mod trips;
 
 pub use asking::ask_fills;
 pub use asking::ask_lowering;
@@ -22,6 +23,7 @@ pub use state::MoveFault;
 pub use state::Movement;
 pub use state::Place;
 use store::StoreFault;
+pub use trips::spill_and_refill;
 
 // Adds to a store's fault the move that met it.
 pub fn at_place<T>(result: Result<T, StoreFault>, place: Place) -> Result<T, MoveFault>

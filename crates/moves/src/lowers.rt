@@ -29,7 +29,8 @@ pub(crate) fn reads_collection(at: &Cursor, word: u64) -> bool
 // RNAT from the collection of the new group.
 fn lower_far<S: Store>(at: &mut Cursor, store: &S, word: u64) -> Result<(), StoreFault>
     ensures answer { λ r. ⌜ r ≡ writeOf (S·Store .meaning (now (store .entry))) (collectionOf word) ⌝ }
-    ensures cursor { λ _. ⌜ now (at .exit) ≡ cond (isOpen (S·Store .meaning (now (store .entry))) (collectionOf word)) (loweredTo word (farBits (S·Store .meaning (now (store .entry))) word) (readMore 1 (now (at .entry)))) (now (at .entry)) ⌝ }
+    ensures cursor { λ _. ⌜ now (at .exit) ≡ cond (isOpen (S·Store .meaning (now (store .entry))) (collectionOf word))
+        (loweredTo word (farBits (S·Store .meaning (now (store .entry))) word) (readMore 1 (now (at .entry)))) (now (at .entry)) ⌝ }
 {
     let collection = store.read(collection_of(word))?;
     at.counts.read = at.counts.read.saturating_add(1);
@@ -49,7 +50,8 @@ fn lower_near(at: &mut Cursor, word: u64)
 // Lowers BSPSTORE to `word`.
 pub fn lower<S: Store>(at: &mut Cursor, store: &S, word: u64, context: u64) -> Result<(), MoveFault>
     ensures answer { λ r. ⌜ r ≡ lowerAnswer (S·Store .meaning (now (store .entry))) context (now (at .entry)) word ⌝ }
-    ensures cursor { λ _. ⌜ now (at .exit) ≡ cond (lowerOpen (now (at .entry)) (S·Store .meaning (now (store .entry))) word) (lowered (S·Store .meaning (now (store .entry))) (now (at .entry)) word) (now (at .entry)) ⌝ }
+    ensures cursor { λ _. ⌜ now (at .exit) ≡ cond (lowerOpen (now (at .entry)) (S·Store .meaning (now (store .entry))) word)
+        (lowered (S·Store .meaning (now (store .entry))) (now (at .entry)) word) (now (at .entry)) ⌝ }
 {
     if reads_collection(at, word) {
         let place = Place {

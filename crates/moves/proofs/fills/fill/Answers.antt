@@ -11,7 +11,8 @@ returns-else-is-near g c =
     let p = c .args .position in
     let far : isNear at p ≡ false = sym (c .is-near .ensures) ∙ c .if-is-near .left in
     record {
-      answer = far-answer m (c .args .context) at p (c .from .result) (c .at-place-else-is-near .result) (c .fill-far .result) far (c .from .ensures) (c .at-place-else-is-near .ensures) (c .fill-far .ensures .answer);
+      answer = far-answer m (c .args .context) at p (c .from .result) (c .at-place-else-is-near .result) (c .fill-far .result) far (c .from .ensures)
+          (c .at-place-else-is-near .ensures) (c .fill-far .ensures .answer);
       file = rw far (c .fill-far .ensures .file);
       cursor = rw far (c .fill-far .ensures .cursor);
     }
