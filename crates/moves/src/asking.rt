@@ -35,7 +35,7 @@ fn ask<S: Store>(store: &S, word: u64, place: Place) -> Result<(), MoveFault>
 // The words that spills until `end` write.
 pub fn ask_spills<S: Store>(at: &Cursor, store: &S, end: u64, context: u64) -> Result<(), MoveFault>
     ensures answer { λ r. ⌜ r ≡ spillsAsked (S·Store .meaning (now (store .entry))) context
-            (now (at .entry) .start) (end - now (at .entry) .bspstore) (now (at .entry) .bspstore) ⌝ }
+        (now (at .entry) .start) (end - now (at .entry) .bspstore) (now (at .entry) .bspstore) ⌝ }
     ensures told { λ r. ⌜ Told (S·Store .meaning (now (store .entry))) Spill context (SpillNeeds (now (at .entry) .start) (now (at .entry) .bspstore) end) r ⌝ }
     ensures lowest { λ r. ⌜ Lowest (S·Store .meaning (now (store .entry))) (SpillNeeds (now (at .entry) .start) (now (at .entry) .bspstore) end) r ⌝ }
 {
@@ -82,7 +82,7 @@ pub fn ask_fills<S: Store>(
     ensures answer { λ r. ⌜ r ≡ fillsAsked (S·Store .meaning (now (store .entry))) context (now (at .entry)) (high - low) low ⌝ }
     ensures told { λ r. ⌜ Told (S·Store .meaning (now (store .entry))) Fill context (FillNeeds (now (at .entry)) low high) r ⌝ }
     ensures lowest { λ r. ⌜ (Aligned (length (S·Store .meaning (now (store .entry)) .words)) → Lowest
-            (S·Store .meaning (now (store .entry))) (FillNeeds (now (at .entry)) low high) r) ⌝ }
+        (S·Store .meaning (now (store .entry))) (FillNeeds (now (at .entry)) low high) r) ⌝ }
 {
     for position in low..high {
         ask_fill(at, store, position, context)?;

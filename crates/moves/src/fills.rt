@@ -41,7 +41,7 @@ fn fill_near<K: Kind, S: Store>(
         (registerPut (now (slots .entry)) position (filledFrom (K·Kind .contentOf) (now (at .entry) .rnat) (now (at .entry)) (S·Store .meaning (now (store .entry))) position))
         (now (slots .entry)) ⌝ }
     ensures cursor { λ _. ⌜ now (at .exit) ≡ cond (isOpen (S·Store .meaning (now (store .entry))) (wordOf
-            (now (at .entry)) position)) (readMore 1 (now (at .entry))) (now (at .entry)) ⌝ }
+        (now (at .entry)) position)) (readMore 1 (now (at .entry))) (now (at .entry)) ⌝ }
 {
     let word = address_of(at.start, position);
     let image = store.read(word)?;
@@ -70,7 +70,7 @@ fn fill_far<K: Kind, S: Store>(
         (registerPut (now (slots .entry)) position (filledFrom (K·Kind .contentOf) (farBits (S·Store .meaning (now (store .entry))) (wordOf (now (at .entry)) position))
         (now (at .entry)) (S·Store .meaning (now (store .entry))) position)) (now (slots .entry)) ⌝ }
     ensures cursor { λ _. ⌜ now (at .exit) ≡ cond (farOpen (S·Store .meaning (now (store .entry))) (wordOf
-            (now (at .entry)) position)) (readMore 2 (now (at .entry))) (now (at .entry)) ⌝ }
+        (now (at .entry)) position)) (readMore 2 (now (at .entry))) (now (at .entry)) ⌝ }
 {
     let word = address_of(at.start, position);
     let image = store.read(word)?;
@@ -124,13 +124,13 @@ pub fn fill_run<K: Kind, S: Store>(
     context: u64,
 ) -> Result<(), MoveFault>
     ensures answer { λ r. ⌜ r ≡ fillRun (K·Kind .contentOf) (S·Store .meaning (now (store .entry))) context (high - low) low (now (at .entry))
-            (now (slots .entry)) .answer ⌝ }
+        (now (slots .entry)) .answer ⌝ }
     ensures file { λ _. ⌜ now (slots .exit) ≡ fillRun (K·Kind .contentOf)
-            (S·Store .meaning (now (store .entry))) context (high - low) low (now (at .entry)) (now (slots .entry)) .file ⌝ }
+        (S·Store .meaning (now (store .entry))) context (high - low) low (now (at .entry)) (now (slots .entry)) .file ⌝ }
     ensures cursor { λ _. ⌜ now (at .exit) ≡ fillRun (K·Kind .contentOf)
-            (S·Store .meaning (now (store .entry))) context (high - low) low (now (at .entry)) (now (slots .entry)) .cursor ⌝ }
+        (S·Store .meaning (now (store .entry))) context (high - low) low (now (at .entry)) (now (slots .entry)) .cursor ⌝ }
     ensures closed { λ r. ⌜ FillShows zeroContent (K·Kind .contentOf) context low high (now (at .entry))
-            (S·Store .meaning (now (store .entry))) (now (slots .entry)) r (now (at .exit))
+        (S·Store .meaning (now (store .entry))) (now (slots .entry)) r (now (at .exit))
         (now (slots .exit)) ⌝ }
 {
     for position in low..high {

@@ -34,9 +34,9 @@ fn advance(at: &mut Cursor, rnat: u64)
 fn spill_collection<S: Store>(at: &mut Cursor, store: &mut S) -> Result<(), StoreFault>
     ensures answer { λ r. ⌜ r ≡ writeOf (S·Store .meaning (now (store .entry))) (now (at .entry) .bspstore) ⌝ }
     ensures words { λ _. ⌜ S·Store .meaning (now (store .exit))
-            ≡ written (S·Store .meaning (now (store .entry))) (now (at .entry) .bspstore) (now (at .entry) .rnat) ⌝ }
+        ≡ written (S·Store .meaning (now (store .entry))) (now (at .entry) .bspstore) (now (at .entry) .rnat) ⌝ }
     ensures cursor { λ _. ⌜ now (at .exit) ≡ cond (isOpen (S·Store .meaning (now (store .entry))) (now (at .entry) .bspstore)) (pastCollection
-            (now (at .entry))) (now (at .entry)) ⌝ }
+        (now (at .entry))) (now (at .entry)) ⌝ }
 {
     store.write(at.bspstore, at.rnat)?;
     advance(at, 0);
@@ -51,9 +51,9 @@ fn spill_register<K: Kind, S: Store>(
 ) -> Result<(), StoreFault>
     ensures answer { λ r. ⌜ r ≡ writeOf (S·Store .meaning (now (store .entry))) (now (at .entry) .bspstore) ⌝ }
     ensures words { λ _. ⌜ S·Store .meaning (now (store .exit))
-            ≡ written (S·Store .meaning (now (store .entry))) (now (at .entry) .bspstore) (K·Kind .imageOf (register .content)) ⌝ }
+        ≡ written (S·Store .meaning (now (store .entry))) (now (at .entry) .bspstore) (K·Kind .imageOf (register .content)) ⌝ }
     ensures cursor { λ _. ⌜ now (at .exit) ≡ cond (isOpen (S·Store .meaning (now (store .entry)))
-            (now (at .entry) .bspstore)) (pastRegister (register .nat) (now (at .entry))) (now (at .entry)) ⌝ }
+        (now (at .entry) .bspstore)) (pastRegister (register .nat) (now (at .entry))) (now (at .entry)) ⌝ }
 {
     store.write(at.bspstore, register.content.image())?;
     let rnat = with_nat(at.rnat, at.bspstore, register.nat);
@@ -103,10 +103,10 @@ pub fn spill_until<K: Kind, S: Store>(
     ensures words { λ _. ⌜ S·Store .meaning (now (store .exit))
         ≡ spillRun zeroContent (K·Kind .imageOf) (now (slots .entry)) context (end - now (at .entry) .bspstore) (now (at .entry)) (S·Store .meaning (now (store .entry))) .meaning ⌝ }
     ensures cursor { λ _. ⌜ now (at .exit) ≡ spillRun zeroContent (K·Kind .imageOf)
-            (now (slots .entry)) context (end - now (at .entry) .bspstore) (now (at .entry))
+        (now (slots .entry)) context (end - now (at .entry) .bspstore) (now (at .entry))
         (S·Store .meaning (now (store .entry))) .cursor ⌝ }
     ensures closed { λ r. ⌜ SpillShows zeroContent (K·Kind .imageOf) (now (slots .entry)) context end (now (at .entry))
-            (S·Store .meaning (now (store .entry))) r (now (at .exit))
+        (S·Store .meaning (now (store .entry))) r (now (at .exit))
         (S·Store .meaning (now (store .exit))) ⌝ }
 {
     for _word in at.bspstore..end {

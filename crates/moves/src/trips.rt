@@ -24,12 +24,12 @@ fn refill<K: Kind, S: Store>(
     context: u64,
 ) -> Result<(), MoveFault>
     ensures answer { λ r. ⌜ r ≡ refillRun zeroContent (K·Kind .contentOf)
-            (S·Store .meaning (now (store .entry))) context (high - low) low (now (at .entry)) (now (slots .entry)) .answer ⌝ }
+        (S·Store .meaning (now (store .entry))) context (high - low) low (now (at .entry)) (now (slots .entry)) .answer ⌝ }
     ensures file { λ _. ⌜ now (slots .exit) ≡ refillRun zeroContent (K·Kind .contentOf)
-            (S·Store .meaning (now (store .entry))) context (high - low) low (now (at .entry))
+        (S·Store .meaning (now (store .entry))) context (high - low) low (now (at .entry))
         (now (slots .entry)) .file ⌝ }
     ensures cursor { λ _. ⌜ now (at .exit) ≡ refillRun zeroContent (K·Kind .contentOf)
-            (S·Store .meaning (now (store .entry))) context (high - low) low (now (at .entry))
+        (S·Store .meaning (now (store .entry))) context (high - low) low (now (at .entry))
         (now (slots .entry)) .cursor ⌝ }
 {
     clear_registers(slots, u64::from(low), u64::from(high));
@@ -46,12 +46,12 @@ pub fn spill_and_refill<K: Kind, S: Store>(
     context: u64,
 ) -> Result<(), MoveFault>
     ensures answer { λ r. ⌜ r ≡ roundTrip zeroContent (K·Kind .imageOf) (K·Kind .contentOf) context end (now (at .entry))
-            (S·Store .meaning (now (store .entry))) (now (slots .entry)) .answer ⌝ }
+        (S·Store .meaning (now (store .entry))) (now (slots .entry)) .answer ⌝ }
     ensures file { λ _. ⌜ now (slots .exit) ≡ roundTrip zeroContent (K·Kind .imageOf) (K·Kind .contentOf) context end (now (at .entry))
-            (S·Store .meaning (now (store .entry)))
+        (S·Store .meaning (now (store .entry)))
         (now (slots .entry)) .file ⌝ }
     ensures cursor { λ _. ⌜ now (at .exit) ≡ roundTrip zeroContent (K·Kind .imageOf) (K·Kind .contentOf) context end (now (at .entry))
-            (S·Store .meaning (now (store .entry)))
+        (S·Store .meaning (now (store .entry)))
         (now (slots .entry)) .cursor ⌝ }
     ensures words { λ _. ⌜ S·Store .meaning (now (store .exit))
         ≡ spillRun zeroContent (K·Kind .imageOf) (now (slots .entry)) context (end - now (at .entry) .bspstore) (now (at .entry)) (S·Store .meaning (now (store .entry))) .meaning ⌝ }

@@ -130,8 +130,9 @@ well-append : (ds t : List ℕ) → allDigits ds ≡ true → 0 < length ds → 
 well-append [] t h some alone stop = absurd (omega arith)
 well-append (c ∷ cs) t h some alone stop =
     let e = and-parts (asciiDigit c) (allDigits cs) h in
+    let zero : c ≡ 48 → beginsWithDigit (cs ++ t) ≡ false = λ q. ap (λ xs. beginsWithDigit (xs ++ t)) (nil-from-length cs (omega (arith, alone q))) ∙ stop in
     and-from _ _ (e .0) (⊎-elim
-    (λ q. subst (λ (xs : List ℕ). not (eqb c 48 && beginsWithDigit (xs ++ t)) ≡ true) (sym (nil-from-length cs (omega (arith, alone q)))) (not-from-false _ (and-right (eqb c 48) (beginsWithDigit t) stop)))
+    (λ q. not-from-false _ (and-right (eqb c 48) (beginsWithDigit (cs ++ t)) (zero q)))
     (λ q. not-from-false _ (and-left (eqb c 48) (beginsWithDigit (cs ++ t)) (ne-eqb c 48 q)))
     (cases-eq c 48))
 

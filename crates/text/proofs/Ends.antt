@@ -8,10 +8,10 @@ use native.Mathlib.Omega.{arith}
 use lib.Dec.{eqb}
 use lib.ListN.{length, getD, take, drop}
 use Rattle.std.proofs.shelf.Elements.{all-from-getD}
-use Rattle.std.proofs.shelf.Lists.{drop-all, drop-more, getD-take, length-take-le, take-append-drop, take-rest}
-use Rattle.std.proofs.shelf.Tests.{eqb-true, eqb-false, ne-eqb}
+use Rattle.std.proofs.shelf.Lists.{at-drop-all, at-drop-more, drop-all, drop-more, getD-take, length-take-le, take-append-drop, take-rest}
+use Rattle.std.proofs.shelf.Tests.{cond-false, cond-true, eq-eqb, eqb-true, eqb-false, ne-eqb}
 use Rattle.std.specs.shelf.Lists.{All}
-use Rattle.text.specs.Lines.{before, linesOf, ended, closed, OneLine, FirstLine, Rejoined}
+use Rattle.text.specs.Lines.{before, linesOf, ended, closed, endBytes, OneLine, FirstLine, Rejoined}
 
 lines-split : (l t : List ℕ) → OneLine l → linesOf (l ++ (10 ∷ t)) ≡ l ∷ linesOf t
 lines-split [] t h = refl
@@ -85,3 +85,22 @@ one-lines (b ∷ bs) = go (eqb b 10) refl (linesOf bs) (one-lines bs)
 
 pub rejoins : (s : List ℕ) → Rejoined s
 rejoins s = (closes s, one-lines s)
+
+-- an input has one line more than end bytes, at most
+pub lines-few : (s : List ℕ) → length (linesOf s) ≤ endBytes s + 1
+lines-few [] = omega arith
+lines-few (b ∷ bs) = go (eqb b 10) (linesOf bs) (endBytes bs) (lines-few bs)
+  where
+    go : (v : Bool) (ls : List (List ℕ)) (n : ℕ) → length ls ≤ n + 1 → length (cond v ([] ∷ ls) (before b ls)) ≤ cond v (n + 1) n + 1
+    go true ls n h = omega arith
+    go false [] n h = omega arith
+    go false (l ∷ ls) n h = h
+
+pub ends-here : (s : List ℕ) (i : ℕ) → i < length s → getD s i 0 ≡ 10 → endBytes (drop i s) ≡ endBytes (drop (i + 1) s) + 1
+ends-here s i lt e = at-drop-more endBytes s i 0 lt ∙ cond-true (eqb (getD s i 0) 10) (endBytes (drop (i + 1) s) + 1) (endBytes (drop (i + 1) s)) (eq-eqb (getD s i 0) 10 e)
+
+pub ends-not : (s : List ℕ) (i : ℕ) → i < length s → (getD s i 0 ≡ 10 → ⊥) → endBytes (drop i s) ≡ endBytes (drop (i + 1) s)
+ends-not s i lt e = at-drop-more endBytes s i 0 lt ∙ cond-false (eqb (getD s i 0) 10) (endBytes (drop (i + 1) s) + 1) (endBytes (drop (i + 1) s)) (ne-eqb (getD s i 0) 10 e)
+
+pub ends-done : (s : List ℕ) (i : ℕ) → length s ≤ i → endBytes (drop i s) ≡ 0
+ends-done s i le = at-drop-all endBytes s i le

@@ -5,7 +5,7 @@ use mathlib.Core.List.{List, [], _∷_, _++_, append-assoc}
 use Prim.Native.Nat.{ℕ, _+_, _^_, _≤_, _<_}
 use native.Mathlib.Omega.{arith}
 use denote.Ref.{RefT}
-use lib.ListN.{length, drop, length-append}
+use lib.ListN.{length, getD, drop, length-append}
 use Rattle.std.specs.Written.{decimal}
 use Rattle.std.specs.declared.option.Option.{Option}
 use Rattle.std.specs.declared.option.Option.the-variants.{Some, None}
@@ -27,6 +27,9 @@ operand-none : (s d : List ℕ) → s ≡ 32 ∷ d → readable d ≡ false → 
 operand-none s d e h n t small k =
     let same : d ≡ decimal n ++ t = ap (drop 1) (sym e ∙ k .0) in
     both-ways (readable d) h (ap readable same ∙ numeral-only n t small (k .1) .0)
+
+pub no-operand : (s : List ℕ) → (0 < length s → getD s 0 0 ≡ 32 → ⊥) → OperandOf s None
+no-operand s h n t small k = h (omega (arith, ap length (k .0))) (ap (λ x. getD x 0 0) (k .0))
 
 pub operand-is : (s d : List ℕ) (r : Option (ℕ × RefT (List ℕ))) → s ≡ 32 ∷ d → NumberOf d r → OperandOf s r
 operand-is s d None e h = operand-none s d e h

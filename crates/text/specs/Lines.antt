@@ -3,9 +3,8 @@ use mathlib.Core.Path.{_≡_}
 use mathlib.Core.Logic.{_⊎_}
 use mathlib.Core.Bool.{cond}
 use mathlib.Core.List.{List, [], _∷_, _++_}
-use Prim.Native.Nat.{ℕ, _<_}
+use Prim.Native.Nat.{ℕ, _+_}
 use lib.Dec.{eqb}
-use lib.ListN.{length}
 use Rattle.std.specs.shelf.Lists.{All}
 
 -- a byte before the first line of those that follow
@@ -28,6 +27,11 @@ abbrev pub closed : List ℕ → List ℕ
 closed [] = []
 closed (b ∷ []) = cond (eqb b 10) (b ∷ []) (b ∷ 10 ∷ [])
 closed (b ∷ c ∷ bs) = b ∷ closed (c ∷ bs)
+
+-- how many end bytes there are
+abbrev pub endBytes : List ℕ → ℕ
+endBytes [] = 0
+endBytes (b ∷ bs) = cond (eqb b 10) (endBytes bs + 1) (endBytes bs)
 
 -- no end byte
 abbrev pub OneLine : List ℕ → Type 0

@@ -5,6 +5,7 @@ use mathlib.Core.List.{List, [], _∷_, _++_}
 use Prim.Native.Nat.{ℕ, _+_, _-_, _*_, _^_, _<_}
 use denote.Ref.{RefT}
 use lib.Dec.{eqb, ltb}
+use lib.ListN.{length, getD, take, drop}
 use Rattle.std.specs.Text.{asciiDigit}
 use Rattle.std.specs.Written.{decimal}
 use Rattle.std.specs.shelf.Lists.{All}
@@ -47,6 +48,11 @@ readable s = beginsWell s && ltb (worth 0 s) (2 ^ 64)
 abbrev pub NumberOf : List ℕ → Option (ℕ × RefT (List ℕ)) → Type 0
 NumberOf s (Some p) = (readable s ≡ true) × (p .0 ≡ worth 0 s) × (p .1 .now ≡ afterDigits s)
 NumberOf s None = readable s ≡ false
+
+-- the answer is what follows the space that s begins with, or s begins with none
+abbrev pub AfterSpace : List ℕ → Option (RefT (List ℕ)) → Type 0
+AfterSpace s (Some d) = (0 < length s) × (getD s 0 0 ≡ 32) × (d .now ≡ take (length s - 1) (drop 1 s))
+AfterSpace s None = 0 < length s → getD s 0 0 ≡ 32 → ⊥
 
 -- s is a space, the digits of n, and t, which begins with no digit
 abbrev pub Takes : List ℕ → ℕ → List ℕ → Type 0

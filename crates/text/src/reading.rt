@@ -3,7 +3,7 @@ ghost use mathlib.Core.Path.{_≡_};
 ghost use mathlib.Core.List.{[], _∷_};
 ghost use Prim.Native.Nat.{ℕ, _<_};
 ghost use Rattle.std.specs.declared.option.Option.the-variants.{Some, None};
-ghost use Rattle.text.specs.Numbers.{OperandOf};
+ghost use Rattle.text.specs.Numbers.{AfterSpace, OperandOf};
 ghost use Rattle.text.specs.Spelling.{spelling, listed, Operands64, Unreadable, InstructionOf, ListedAfter, Apart};
 use super::numbers::number;
 use engine::Instruction;
@@ -17,14 +17,22 @@ enum Operands {
     Three(u64, u64, u64),
 }
 
+// What follows the space before an operand.
+fn after_space(text: &[u8]) -> Option<&[u8]>
+    ensures { λ r. ⌜ AfterSpace (now (text .entry)) r ⌝ }
+{
+    match text {
+        [b' ', rest @ ..] => Some(rest),
+        _ => None,
+    }
+}
+
 // One operand, and what follows it.
 fn operand(text: &[u8]) -> Option<(u64, &[u8])>
     ensures { λ r. ⌜ OperandOf (now (text .entry)) r ⌝ }
 {
-    match text {
-        [b' ', digits @ ..] => number(digits),
-        _ => None,
-    }
+    let digits = after_space(text)?;
+    number(digits)
 }
 
 // After three operands the line ends.

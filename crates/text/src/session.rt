@@ -11,7 +11,7 @@ ghost use Rattle.text.specs.Outcomes.{faultAt, outcomeOf, printed, isGranted, 
 ghost use Rattle.text.specs.Printed.{Appends};
 ghost use Rattle.engine.specs.Hosts.{hosted};
 ghost use Rattle.engine.specs.Steps.{stepAnswer, stepAfter};
-ghost use Rattle.text.specs.Lines.{linesOf};
+ghost use Rattle.text.specs.Lines.{endBytes, linesOf};
 ghost use Rattle.text.specs.Sessions.{onLine, numbered, LineRuns, Runs, SessionRuns, SessionPrints, printedAll};
 use super::lines::first_line;
 use super::printing::push_answer;
@@ -144,7 +144,10 @@ fn execute_lines<K: Kind, S: Store>(
 }
 
 // How many lines an input has at most.
-fn lines_at_most(input: &[u8]) -> usize {
+fn lines_at_most(input: &[u8]) -> usize
+    ensures ends { λ r. ⌜ r ≡ endBytes (now (input .entry)) + 1 ⌝ }
+    ensures lines { λ r. ⌜ length (linesOf (now (input .entry))) ≤ r ⌝ }
+{
     let mut n: usize = 0;
     for b in input {
         if *b == b'\n' {

@@ -25,5 +25,9 @@ returns-in-rest-grown c =
 pub returns : need.returns
 returns c =
     let s = c .loop-left .left .now in
-    let stop : beginsWithDigit s ≡ false = elim (c .if-left-lt1 .came) [ in-rest w ↦ begins-not s (λ p q r. omega (arith, ltb-true, ltb-false)) | in-rest·2 w ↦ begins-not s (λ p q r. omega (arith, ltb-true, ltb-false)) | in-rest·3 w ↦ begins-not s (λ p q r. omega (arith, ltb-true, ltb-false)) ] in
+    let stop : beginsWithDigit s ≡ false = elim (c .if-left-lt1 .came) [
+      | in-rest w ↦ begins-not s (λ p q r. omega (arith, ltb-true, ltb-false))
+      | in-rest·2 w ↦ begins-not s (λ p q r. omega (arith, ltb-true, ltb-false))
+      | in-rest·3 w ↦ begins-not s (λ p q r. omega (arith, ltb-true, ltb-false))
+    ] in
     (sym (worth-stop (c .loop-left .n) s stop) ∙ c .loop-left .inv .0, sym (after-stop s stop) ∙ c .loop-left .inv .1)

@@ -14,12 +14,13 @@ returns-in-Break-push-value c =
     let p = err-from-errBy (c .from-residual .result) (c .from-residual .ensures .1) in
     let ns = c .args .values .now in
     let i = c .loop-v .v-index in
-    appends-as (spaced-rest ns (i + 1))
-    (appends-failed (spaced (drop (i + 1) ns)) (appends-as (spaced-more ns i (c .loop-v-test .taken)) (appends-then (c .loop-v .inv) refl (c .push-value .ensures))) (ap isOk (c .in-Break-push-value .was tt)) (ap isOk (p .1)))
+    let tried = appends-as (spaced-more ns i (c .loop-v-test .taken)) (appends-then (c .loop-v .inv) refl (c .push-value .ensures)) in
+    appends-as (spaced-rest ns (i + 1)) (appends-failed (spaced (drop (i + 1) ns)) tried (ap isOk (c .in-Break-push-value .was tt)) (ap isOk (p .1)))
 
 pub loop-v-again : need.loop-v-again
 loop-v-again c =
-    appends-at (c .in-Continue-push-value .was tt) (appends-as (spaced-more (c .args .values .now) (c .loop-v .v-index) (c .loop-v-test .taken)) (appends-then (c .loop-v .inv) refl (c .push-value .ensures)))
+    let more = spaced-more (c .args .values .now) (c .loop-v .v-index) (c .loop-v-test .taken) in
+    appends-at (c .in-Continue-push-value .was tt) (appends-as more (appends-then (c .loop-v .inv) refl (c .push-value .ensures)))
 
 pub returns : need.returns
 returns c = appends-as (ap spaced (take-all (c .loop-v .v-index) (c .args .values .now) (c .loop-v-test .left))) (c .loop-v .inv)

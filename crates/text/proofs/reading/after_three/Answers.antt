@@ -1,9 +1,5 @@
 use mathlib.Core.List.{[], _∷_}
-use native.Mathlib.Omega.{arith}
 use borrow.Author.Needs.{needs}
-use borrow.Author.Tests.{ltb-true, ltb-false}
-use lib.ListN.{length}
-use mathlib.Core.Path.{ap}
 use Rattle.text.proofs.Operands.{listed-end, listed-full}
 use Rattle.text.proofs.reading.after_three.Needs as need
 

@@ -1,5 +1,4 @@
 use mathlib.Core.List.{[], _∷_}
-use native.Mathlib.Omega.{arith}
 use borrow.Author.Needs.{needs}
 use Rattle.text.proofs.Operands.{listed-end, listed-step, listed-stop}
 use Rattle.text.proofs.reading.after_two.Needs as need
@@ -11,4 +10,7 @@ pub returns-in-Break-c : need.returns-in-Break-c
 returns-in-Break-c c = rw (c .from-residual .ensures) (listed-stop (c .args .a ∷ c .args .b ∷ []) (c .args .text .now) (search needs) (c .in-Break-c .ensures tt))
 
 pub returns : need.returns
-returns c = listed-step (c .args .a ∷ c .args .b ∷ []) (c .args .text .now) (c .in-Continue-c .rest .now) (c .in-Continue-c .c) (c .after-three .result) (search needs) (c .in-Continue-c .ensures tt) (c .after-three .ensures)
+returns c =
+    let text = c .args .text .now in
+    let rest = c .in-Continue-c .rest .now in
+    listed-step (c .args .a ∷ c .args .b ∷ []) text rest (c .in-Continue-c .c) (c .after-three .result) (search needs) (c .in-Continue-c .ensures tt) (c .after-three .ensures)
