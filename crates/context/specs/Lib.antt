@@ -4,4 +4,5 @@ pub mod Refusals
 pub mod Regions
 pub mod Returns
 pub mod Scenes
+pub mod Sound
 pub mod Spilling

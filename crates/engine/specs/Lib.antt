@@ -1,4 +1,6 @@
+pub mod Bounds
 pub mod Hosts
+pub mod Invariants
 pub mod Making
 pub mod Rules
 pub mod Running

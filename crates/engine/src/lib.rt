@@ -6,6 +6,7 @@ ghost use lib.ListN.{length};
 ghost use Rattle.engine.specs.Hosts.{hosted};
 ghost use Rattle.std.specs.declared.result.Result.the-variants.{Ok, Err};
 ghost use Rattle.context.specs.declared.refusals.Refusal.the-variants.{Host as WrongHost};
+ghost use Rattle.engine.specs.Bounds.{NeverTooDeep, FewWritten};
 ghost use Rattle.engine.specs.Rules.{inRange};
 ghost use Rattle.engine.specs.Making.{canMake, newMachine};
 ghost use Rattle.engine.specs.Steps.{stepAnswer, stepAfter, ruled, ruledAfter};
@@ -65,7 +66,8 @@ impl Engine {
         })
     }
 
-    // One instruction. The host hands each call the same file and the same store, altered by no one else.
+    // One instruction. The host hands each call the same file and the same store, altered by no one else. A restore is
+    // never refused for its depth, and an alloc writes at most 98 words.
     pub fn step<K: Kind, S: Store>(
         &mut self,
         slots: &mut [Slot<K>],
@@ -77,6 +79,8 @@ impl Engine {
         ensures after { λ _. ⌜ hosted (now (self .exit) .machine) (now (slots .exit)) (S·Store .meaning (now (store .exit)))
             ≡ stepAfter zeroContent (K·Kind .imageOf) (K·Kind .contentOf) (K·Kind .sumOf)
             (hosted (now (self .entry) .machine) (now (slots .entry)) (S·Store .meaning (now (store .entry)))) instruction ⌝ }
+        ensures restored { λ r. ⌜ NeverTooDeep instruction r ⌝ }
+        ensures words { λ _. ⌜ FewWritten instruction (now (self .entry) .machine .counts .written) (now (self .exit) .machine .counts .written) ⌝ }
     {
         if slots.len() as u64 != self.machine.slots || store.len() != self.machine.words {
             return Err(Refusal::Host);
@@ -94,7 +98,7 @@ impl Engine {
         store: &mut S,
         instruction: Instruction,
     ) -> Result<Answer, Refusal>
-        requires { ⌜ inRange instruction ≡ true ⌝ }
+        requires { ⌜ inRange instruction ≡ true ⌝ ∗ ⌜ length (now slots) ≡ now self .machine .slots ⌝ }
         ensures answer { λ r. ⌜ r ≡ ruled zeroContent (K·Kind .imageOf) (K·Kind .contentOf)
             (hosted (now (self .entry) .machine) (now (slots .entry)) (S·Store .meaning (now (store .entry)))) instruction ⌝ }
         ensures after { λ _. ⌜ hosted (now (self .exit) .machine) (now (slots .exit)) (S·Store .meaning (now (store .exit)))

@@ -1,7 +1,8 @@
 // Instructions on the context that is driven: each takes it out of its entry, and puts it back.
 ghost use mathlib.Core.Path.{_≡_};
-ghost use mathlib.Core.Bool.{cond};
+ghost use mathlib.Core.Bool.{cond, true, false};
 ghost use lib.Dec.{eqb};
+ghost use lib.ListN.{length};
 ghost use Rattle.std.specs.declared.result.Result.the-variants.{Ok, Err};
 ghost use Rattle.context.specs.declared.refusals.Refusal.the-variants.{Mode};
 ghost use Rattle.context.specs.Frames.{called, covered, rotatedFrame, resetFrame, previousSet, previousAnswer, writeFile, copyFile, addFile};
@@ -11,7 +12,8 @@ ghost use Rattle.context.specs.Spilling.{allocAnswer, allocAfter, flushRun, flu
 ghost use Rattle.context.specs.Spilling.{earlyFillAnswer, earlyFillAfter};
 ghost use Rattle.context.specs.Returns.{returnBase, restoreBase, backTo, backToAnswer, loadAnswer, loadAfter};
 ghost use Rattle.engine.specs.declared.instructions.Answer.the-variants.{Done, Marker};
-ghost use Rattle.engine.specs.declared.machine.State.the-variants.{Running, Covered};
+ghost use Rattle.engine.specs.declared.machine.State.the-variants.{Running, Covered, Flushed};
+ghost use Rattle.engine.specs.Invariants.{isIdle, isClosed, isFlushed};
 ghost use Rattle.engine.specs.Tables.{recordAt};
 ghost use Rattle.engine.specs.Hosts.{hosted, sceneOf, lifted, inState};
 ghost use Rattle.engine.specs.Running.{answered, restacked, shownAs, flushedAs, leaves, afterFlush, spillsEarly, fillsEarly};
@@ -34,6 +36,8 @@ impl Engine {
         sol: u64,
         sor: u64,
     ) -> Result<Answer, Refusal>
+        requires state { ⌜ now self .machine .state ≡ Running ⌝ }
+        requires file { ⌜ length (now slots) ≡ now self .machine .slots ⌝ }
         ensures answer { λ r. ⌜ r ≡ answered Marker (allocAnswer zeroContent (K·Kind .imageOf) (sceneOf
             (hosted (now (self .entry) .machine) (now (slots .entry)) (S·Store .meaning (now (store .entry))))) sof sol sor) ⌝ }
         ensures after { λ _. ⌜ hosted (now (self .exit) .machine) (now (slots .exit)) (S·Store .meaning (now (store .exit)))
@@ -48,6 +52,7 @@ impl Engine {
     }
 
     pub(crate) fn call(&mut self) -> Answer
+        requires { ⌜ now self .machine .state ≡ Running ⌝ }
         ensures answer { λ r. ⌜ r ≡ Done ⌝ }
         ensures machine { λ _. ⌜ now (self .exit) .machine ≡ restacked (now (self .entry) .machine) called ⌝ }
     {
@@ -62,6 +67,8 @@ impl Engine {
         slots: &mut [Slot<K>],
         store: &mut S,
     ) -> Result<Answer, Refusal>
+        requires state { ⌜ now self .machine .state ≡ Running ⌝ }
+        requires file { ⌜ length (now slots) ≡ now self .machine .slots ⌝ }
         ensures answer { λ r. ⌜ r ≡ answered (λ _. Done) (backToAnswer zeroContent (K·Kind .imageOf) (K·Kind .contentOf)
             (sceneOf (hosted (now (self .entry) .machine) (now (slots .entry))
             (S·Store .meaning (now (store .entry))))) (returnBase (recordAt (now (self .entry) .machine)
@@ -81,13 +88,13 @@ impl Engine {
     }
 
     pub(crate) fn cover(&mut self) -> Answer
+        requires { ⌜ now self .machine .state ≡ Running ⌝ }
         ensures answer { λ r. ⌜ r ≡ Done ⌝ }
         ensures machine { λ _. ⌜ now (self .exit) .machine ≡ inState (restacked (now (self .entry) .machine) covered) Covered ⌝ }
     {
         let mut context = self.context();
         context.cover();
-        self.put(context);
-        self.machine.state = State::Covered;
+        self.leave(context, State::Covered);
         Answer::Done
     }
 
@@ -148,6 +155,7 @@ impl Engine {
     }
 
     pub(crate) fn rotate(&mut self) -> Answer
+        requires { ⌜ now self .machine .state ≡ Running ⌝ }
         ensures answer { λ r. ⌜ r ≡ Done ⌝ }
         ensures machine { λ _. ⌜ now (self .exit) .machine ≡ restacked (now (self .entry) .machine) rotatedFrame ⌝ }
     {
@@ -158,6 +166,7 @@ impl Engine {
     }
 
     pub(crate) fn reset_rotation(&mut self) -> Answer
+        requires { ⌜ now self .machine .state ≡ Running ⌝ }
         ensures answer { λ r. ⌜ r ≡ Done ⌝ }
         ensures machine { λ _. ⌜ now (self .exit) .machine ≡ restacked (now (self .entry) .machine) resetFrame ⌝ }
     {
@@ -174,6 +183,7 @@ impl Engine {
     }
 
     pub(crate) fn set_previous(&mut self, word: u64) -> Result<Answer, Refusal>
+        requires { ⌜ now self .machine .state ≡ Running ⌝ }
         ensures answer { λ r. ⌜ r ≡ answered (λ _. Done) (previousAnswer word) ⌝ }
         ensures machine { λ _. ⌜ now (self .exit) .machine ≡ restacked (now (self .entry) .machine) (λ r. previousSet r word) ⌝ }
     {
@@ -189,6 +199,8 @@ impl Engine {
         slots: &mut [Slot<K>],
         store: &mut S,
     ) -> Result<Answer, Refusal>
+        requires state { ⌜ isClosed (now self .machine .state) ≡ true ⌝ }
+        requires file { ⌜ length (now slots) ≡ now self .machine .slots ⌝ }
         ensures answer { λ r. ⌜ r ≡ answered (λ _. Done) (backToAnswer zeroContent (K·Kind .imageOf) (K·Kind .contentOf)
             (sceneOf (hosted (now (self .entry) .machine) (now (slots .entry))
             (S·Store .meaning (now (store .entry))))) (restoreBase (recordAt (now (self .entry) .machine)
@@ -201,11 +213,16 @@ impl Engine {
             (now (self .entry) .machine .current))) ((recordAt (now (self .entry) .machine) (now (self .entry) .machine .current)) .saved)) r Running ⌝ }
     {
         let mut context = self.context();
-        let restored = context.restore(slots, store);
-        self.put(context);
-        restored?;
-        self.machine.state = State::Running;
-        Ok(Answer::Done)
+        match context.restore(slots, store) {
+            Ok(()) => {
+                self.leave(context, State::Running);
+                Ok(Answer::Done)
+            }
+            Err(refusal) => {
+                self.put(context);
+                Err(refusal)
+            }
+        }
     }
 
     // At a shut word the spills before it stand. A covered context is flushed then, a running one goes on.
@@ -214,6 +231,8 @@ impl Engine {
         slots: &[Slot<K>],
         store: &mut S,
     ) -> Result<Answer, Refusal>
+        requires driven { ⌜ isIdle (now self .machine .state) ≡ false ⌝ }
+        requires state { ⌜ isFlushed (now self .machine .state) ≡ false ⌝ }
         ensures answer { λ r. ⌜ r ≡ answered flushedAs (flushAnswer zeroContent (K·Kind .imageOf) (sceneOf
             (hosted (now (self .entry) .machine) (now (slots .entry)) (S·Store .meaning (now (store .entry)))))) ⌝ }
         ensures after { λ r. ⌜ hosted (now (self .exit) .machine) (now (slots .entry)) (S·Store .meaning (now (store .exit)))
@@ -224,11 +243,16 @@ impl Engine {
             (S·Store .meaning (now (store .entry))))))) r (afterFlush (now (self .entry) .machine .state)) ⌝ }
     {
         let mut context = self.context();
-        let flushed = context.flush(slots, store);
-        self.put(context);
-        let (bsp, rnat) = flushed?;
-        self.machine.state = after_flush(self.machine.state);
-        Ok(Answer::Flushed { bsp, rnat })
+        match context.flush(slots, store) {
+            Ok((bsp, rnat)) => {
+                self.leave(context, after_flush(self.machine.state));
+                Ok(Answer::Flushed { bsp, rnat })
+            }
+            Err(refusal) => {
+                self.put(context);
+                Err(refusal)
+            }
+        }
     }
 
     // Bit 0 of the mode allows early spills.
@@ -237,6 +261,8 @@ impl Engine {
         slots: &[Slot<K>],
         store: &mut S,
     ) -> Result<Answer, Refusal>
+        requires driven { ⌜ isIdle (now self .machine .state) ≡ false ⌝ }
+        requires state { ⌜ isFlushed (now self .machine .state) ≡ false ⌝ }
         ensures answer { λ r. ⌜ r ≡ cond (spillsEarly (hosted (now (self .entry) .machine) (now (slots .entry)) (S·Store .meaning (now (store .entry)))))
             (answered (λ _. Done) (earlySpillAnswer zeroContent (K·Kind .imageOf) (sceneOf
             (hosted (now (self .entry) .machine) (now (slots .entry)) (S·Store .meaning (now (store .entry))))))) (Err Mode) ⌝ }
@@ -263,6 +289,9 @@ impl Engine {
         slots: &mut [Slot<K>],
         store: &S,
     ) -> Result<Answer, Refusal>
+        requires driven { ⌜ isIdle (now self .machine .state) ≡ false ⌝ }
+        requires state { ⌜ isFlushed (now self .machine .state) ≡ false ⌝ }
+        requires file { ⌜ length (now slots) ≡ now self .machine .slots ⌝ }
         ensures answer { λ r. ⌜ r ≡ cond (fillsEarly (hosted (now (self .entry) .machine) (now (slots .entry)) (S·Store .meaning (now (store .entry)))))
             (answered (λ _. Done) (earlyFillAnswer (K·Kind .contentOf) (sceneOf (hosted (now (self .entry) .machine) (now (slots .entry))
             (S·Store .meaning (now (store .entry))))))) (Err Mode) ⌝ }
@@ -289,6 +318,8 @@ impl Engine {
         store: &S,
         words: u64,
     ) -> Result<Answer, Refusal>
+        requires state { ⌜ now self .machine .state ≡ Flushed ⌝ }
+        requires file { ⌜ length (now slots) ≡ now self .machine .slots ⌝ }
         ensures answer { λ r. ⌜ r ≡ answered (λ _. Done) (loadAnswer (K·Kind .contentOf) (sceneOf
             (hosted (now (self .entry) .machine) (now (slots .entry)) (S·Store .meaning (now (store .entry))))) words) ⌝ }
         ensures after { λ r. ⌜ hosted (now (self .exit) .machine) (now (slots .exit)) (S·Store .meaning (now (store .entry)))
@@ -297,11 +328,16 @@ impl Engine {
             (S·Store .meaning (now (store .entry))))) words) r Covered ⌝ }
     {
         let mut context = self.context();
-        let loaded = context.load(slots, store, words);
-        self.put(context);
-        loaded?;
-        self.machine.state = State::Covered;
-        Ok(Answer::Done)
+        match context.load(slots, store, words) {
+            Ok(()) => {
+                self.leave(context, State::Covered);
+                Ok(Answer::Done)
+            }
+            Err(refusal) => {
+                self.put(context);
+                Err(refusal)
+            }
+        }
     }
 }
 

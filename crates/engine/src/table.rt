@@ -3,7 +3,9 @@ ghost use mathlib.Core.Path.{_≡_};
 ghost use Prim.Native.Nat.{ℕ, _+_, _≤_, _<_};
 ghost use Rattle.context.specs.Scenes.{seen};
 ghost use Rattle.engine.specs.Tables.{recordAt};
-ghost use Rattle.engine.specs.Hosts.{withEntry, putBack, driving, inMode};
+ghost use Rattle.engine.specs.declared.machine.State.the-variants.{Idle, Flushed};
+ghost use Rattle.engine.specs.Invariants.{Fits};
+ghost use Rattle.engine.specs.Hosts.{withEntry, putBack, driving, inState, inMode};
 ghost use Rattle.engine.specs.Rules.{liesApart, isClear, isEmptyEntry, isParkedEntry, beginAnswer, beginMachine};
 ghost use Rattle.engine.specs.Rules.{parkedAnswer, resumeMachine, retireMachine, parkMachine};
 ghost use Rattle.engine.specs.declared.instructions.Answer.the-variants.{Done, State as StateAnswer};
@@ -48,7 +50,8 @@ impl Engine {
 
     // Puts a context into the entry `k`; no other entry changes.
     fn replace(&mut self, k: usize, context: Context)
-        requires { ⌜ k < 8 ⌝ }
+        requires entry { ⌜ k < 8 ⌝ }
+        requires fits { ⌜ Fits (now self .machine) (context .stack) ⌝ }
         ensures { λ _. ⌜ now (self .exit) .machine ≡ withEntry (now (self .entry) .machine) k (context .stack) ⌝ }
     {
         self.machine.table.entries[k] = context.stack;
@@ -56,10 +59,20 @@ impl Engine {
 
     // Puts the context that is driven back into its entry.
     pub(crate) fn put(&mut self, context: Context)
+        requires { ⌜ Fits (now self .machine) (context .stack) ⌝ }
         ensures { λ _. ⌜ now (self .exit) .machine ≡ putBack (now (self .entry) .machine) (context .stack) (context .counts) ⌝ }
     {
-        self.replace(self.machine.current, context);
+        self.leave(context, self.machine.state);
+    }
+
+    // Puts it back, and enters another state.
+    pub(crate) fn leave(&mut self, context: Context, state: State)
+        requires { ⌜ Fits (inState (now self .machine) state) (context .stack) ⌝ }
+        ensures { λ _. ⌜ now (self .exit) .machine ≡ inState (putBack (now (self .entry) .machine) (context .stack) (context .counts)) state ⌝ }
+    {
+        self.machine.table.entries[self.machine.current] = context.stack;
         self.machine.counts = context.counts;
+        self.machine.state = state;
     }
 
     // Is the region clear of every context that is not retired?
@@ -90,10 +103,11 @@ impl Engine {
 
     // Makes the entry `k` the one that is driven.
     fn drive(&mut self, k: usize, context: Context, state: State)
-        requires { ⌜ k < 8 ⌝ }
+        requires entry { ⌜ k < 8 ⌝ }
+        requires fits { ⌜ Fits (inState (now self .machine) state) (context .stack) ⌝ }
         ensures { λ _. ⌜ now (self .exit) .machine ≡ driving (now (self .entry) .machine) k (context .stack) state ⌝ }
     {
-        self.replace(k, context);
+        self.machine.table.entries[k] = context.stack;
         self.machine.current = k;
         self.machine.state = state;
     }
@@ -149,7 +163,8 @@ impl Engine {
     }
 
     pub(crate) fn retire(&mut self, context: u64) -> Result<Answer, Refusal>
-        requires { ⌜ context < 8 ⌝ }
+        requires entry { ⌜ context < 8 ⌝ }
+        requires idle { ⌜ now self .machine .state ≡ Idle ⌝ }
         ensures answer { λ r. ⌜ r ≡ parkedAnswer (now (self .entry) .machine) context ⌝ }
         ensures machine { λ _. ⌜ now (self .exit) .machine ≡ retireMachine (now (self .entry) .machine) context ⌝ }
     {
@@ -167,13 +182,13 @@ impl Engine {
     }
 
     pub(crate) fn park(&mut self) -> Answer
+        requires { ⌜ now self .machine .state ≡ Flushed ⌝ }
         ensures answer { λ r. ⌜ r ≡ Done ⌝ }
         ensures machine { λ _. ⌜ now (self .exit) .machine ≡ parkMachine (now (self .entry) .machine) ⌝ }
     {
         let mut context = self.context();
         context.park();
-        self.put(context);
-        self.machine.state = State::Idle;
+        self.leave(context, State::Idle);
         Answer::Done
     }
 
