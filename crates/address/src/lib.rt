@@ -1,4 +1,6 @@
 // Words of the backing store: addresses of stack positions, groups, NaT collections and their bits.
+#![tactic(auto)]
+
 ghost use Rattle.std.specs.Prelude.{◌≡◌, ℕ, ◌+◌, ◌%◌, ◌^◌, ◌≤◌, true};
 ghost use Rattle.address.specs.Addresses.{address_of, group_of, is_collection, collection_of, positions_below, capacity_of};
 ghost use Rattle.address.specs.AddressLaws.{Aligned, next_register, registers_among, Increasing, Apart, Neighbours, Counted, Found, Monotone, Steps};

@@ -120,7 +120,7 @@ impl Context {
         nat: bool,
     ) -> Result<(), Refusal>
         ensures answer { result ≡ one_register self.now.stack register }
-        ensures file { slots.new ≡ write_file K.Kind.content_of self.now.stack slots.old register word nat }
+        ensures file { slots.new ≡ write_file K.content_of self.now.stack slots.old register word nat }
     {
         let position = self.position(register)?;
         put_register(
@@ -142,7 +142,7 @@ impl Context {
         source: u64,
     ) -> Result<(), Refusal>
         ensures answer { result ≡ two_registers self.now.stack target source }
-        ensures file { slots.new ≡ copy_file zero_content self.now.stack slots.old target source }
+        ensures file { slots.new ≡ copy_file K.zero_content self.now.stack slots.old target source }
     {
         let to = self.position(target)?;
         let from = self.position(source)?;
@@ -160,7 +160,7 @@ impl Context {
         right: u64,
     ) -> Result<(), Refusal>
         ensures answer { result ≡ three_registers self.now.stack target left right }
-        ensures file { slots.new ≡ add_file zero_content K.Kind.sum_of self.now.stack slots.old target left right }
+        ensures file { slots.new ≡ add_file K.zero_content K.sum_of self.now.stack slots.old target left right }
     {
         let to = self.position(target)?;
         let first = self.position(left)?;
@@ -173,7 +173,7 @@ impl Context {
 
     // The register's content and NaT bit.
     pub fn read<K: Kind>(&self, slots: &[Slot<K>], register: u64) -> Result<Slot<K>, Refusal>
-        ensures { result ≡ read_answer zero_content self.now.stack slots.now register }
+        ensures { result ≡ read_answer K.zero_content self.now.stack slots.now register }
     {
         let position = self.position(register)?;
         Ok(register_at(slots, position))
@@ -182,7 +182,7 @@ impl Context {
 
 // The sum of two registers; its NaT bit is set if either was.
 fn sum_of<K: Kind>(a: Slot<K>, b: Slot<K>) -> Slot<K>
-    ensures { result ≡ summed K.Kind.sum_of a b }
+    ensures { result ≡ summed K.sum_of a b }
 {
     Slot {
         content: a.content.sum(b.content),

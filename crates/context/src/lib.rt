@@ -1,4 +1,6 @@
 // What each instruction does to one context: the part that the table engine and a directly driven context share.
+#![tactic(auto)]
+
 ghost use Rattle.std.specs.Prelude.{◌≡◌, ℕ, ◌+◌, ◌-◌, ◌*◌, ◌/◌, ◌%◌, ◌^◌, ◌<◌, ◌≤◌, true, false, Some, None};
 ghost use Rattle.frame.specs.Markers.{lawful_word};
 ghost use Rattle.frame.specs.Fields.{PartsOfWord};

@@ -23,10 +23,10 @@ impl Context {
         store: &mut S,
         floor: u32,
     ) -> Result<(), MoveFault>
-        ensures answer { result ≡ room_answer zero_content K.Kind.image_of (seen self.old slots.now
-            (S.Store.meaning store.old)) floor }
-        ensures after { seen self.new slots.now (S.Store.meaning store.new)
-            ≡ room_after zero_content K.Kind.image_of (seen self.old slots.now (S.Store.meaning store.old)) floor }
+        ensures answer { result ≡ room_answer K.zero_content K.image_of (seen self.old slots.now
+            (S.meaning store.old)) floor }
+        ensures after { seen self.new slots.now (S.meaning store.new)
+            ≡ room_after K.zero_content K.image_of (seen self.old slots.now (S.meaning store.old)) floor }
     {
         let end = self.spill_end(floor);
         ask_spills(&self.stack.cursor(self.counts), store, end, self.number)?;
@@ -40,7 +40,7 @@ impl Context {
         store: &S,
         word: u64,
     ) -> Result<(), MoveFault>
-        ensures { result ≡ low_first (seen self.now slots.now (S.Store.meaning store.now)) word }
+        ensures { result ≡ low_first (seen self.now slots.now (S.meaning store.now)) word }
     {
         if is_collection(word) {
             ask_lowering(&self.stack.cursor(self.counts), store, word, self.number)
@@ -58,7 +58,7 @@ impl Context {
         high: u32,
         word: u64,
     ) -> Result<(), MoveFault>
-        ensures { result ≡ refill_asked (seen self.now slots.now (S.Store.meaning store.now)) low high word }
+        ensures { result ≡ refill_asked (seen self.now slots.now (S.meaning store.now)) low high word }
     {
         self.ask_low(slots, store, word)?;
         let at = self.stack.cursor(self.counts);
@@ -75,10 +75,10 @@ impl Context {
         high: u32,
         word: u64,
     ) -> Result<(), MoveFault>
-        ensures answer { result ≡ refill_answer K.Kind.content_of (seen self.old slots.old
-            (S.Store.meaning store.now)) low high word }
-        ensures after { seen self.new slots.new (S.Store.meaning store.now)
-            ≡ refill_after K.Kind.content_of (seen self.old slots.old (S.Store.meaning store.now)) low high word }
+        ensures answer { result ≡ refill_answer K.content_of (seen self.old slots.old
+            (S.meaning store.now)) low high word }
+        ensures after { seen self.new slots.new (S.meaning store.now)
+            ≡ refill_after K.content_of (seen self.old slots.old (S.meaning store.now)) low high word }
     {
         self.ask_refill(slots, store, low, high, word)?;
         let mut at = self.stack.cursor(self.counts);
@@ -97,11 +97,11 @@ impl Context {
         base: u32,
         top: u32,
     ) -> Result<(), MoveFault>
-        ensures answer { result ≡ frame_answer zero_content K.Kind.image_of K.Kind.content_of
-            (seen self.old slots.old (S.Store.meaning store.old)) base top }
-        ensures after { seen self.new slots.new (S.Store.meaning store.new)
-            ≡ frame_after zero_content K.Kind.image_of K.Kind.content_of (seen self.old slots.old
-            (S.Store.meaning store.old)) base top }
+        ensures answer { result ≡ frame_answer K.zero_content K.image_of K.content_of
+            (seen self.old slots.old (S.meaning store.old)) base top }
+        ensures after { seen self.new slots.new (S.meaning store.new)
+            ≡ frame_after K.zero_content K.image_of K.content_of (seen self.old slots.old
+            (S.meaning store.old)) base top }
     {
         let stored = self.stack.stored();
         let floor = Context::floor(top, slots.len() as u64);
@@ -125,11 +125,11 @@ impl Context {
         word: u64,
     ) -> Result<(), MoveFault>
         requires { (lawful_word word ≡ true) × (base + sof_of word ≤ capacity_of self.old.stack.size) }
-        ensures answer { result ≡ frame_answer zero_content K.Kind.image_of K.Kind.content_of
-            (seen self.old slots.old (S.Store.meaning store.old)) base (base + sof_of word) }
-        ensures after { seen self.new slots.new (S.Store.meaning store.new)
-            ≡ back_after zero_content K.Kind.image_of K.Kind.content_of (seen self.old slots.old
-            (S.Store.meaning store.old)) base word }
+        ensures answer { result ≡ frame_answer K.zero_content K.image_of K.content_of
+            (seen self.old slots.old (S.meaning store.old)) base (base + sof_of word) }
+        ensures after { seen self.new slots.new (S.meaning store.new)
+            ≡ back_after K.zero_content K.image_of K.content_of (seen self.old slots.old
+            (S.meaning store.old)) base word }
     {
         let old_top = self.top();
         let lo = self.stack.lo;
@@ -165,11 +165,11 @@ impl Context {
         slots: &mut [Slot<K>],
         store: &mut S,
     ) -> Result<(), Refusal>
-        ensures answer { result ≡ back_to_answer zero_content K.Kind.image_of K.Kind.content_of
-            (seen self.old slots.old (S.Store.meaning store.old))
+        ensures answer { result ≡ back_to_answer K.zero_content K.image_of K.content_of
+            (seen self.old slots.old (S.meaning store.old))
             (return_base self.old.stack) self.old.stack.previous }
-        ensures after { seen self.new slots.new (S.Store.meaning store.new)
-            ≡ back_to zero_content K.Kind.image_of K.Kind.content_of (seen self.old slots.old (S.Store.meaning store.old))
+        ensures after { seen self.new slots.new (S.meaning store.new)
+            ≡ back_to K.zero_content K.image_of K.content_of (seen self.old slots.old (S.meaning store.old))
             (return_base self.old.stack) self.old.stack.previous }
     {
         let base = self.return_base()?;
@@ -196,11 +196,11 @@ impl Context {
         slots: &mut [Slot<K>],
         store: &mut S,
     ) -> Result<(), Refusal>
-        ensures answer { result ≡ back_to_answer zero_content K.Kind.image_of K.Kind.content_of
-            (seen self.old slots.old (S.Store.meaning store.old))
+        ensures answer { result ≡ back_to_answer K.zero_content K.image_of K.content_of
+            (seen self.old slots.old (S.meaning store.old))
             (restore_base self.old.stack) self.old.stack.saved }
-        ensures after { seen self.new slots.new (S.Store.meaning store.new)
-            ≡ back_to zero_content K.Kind.image_of K.Kind.content_of (seen self.old slots.old (S.Store.meaning store.old))
+        ensures after { seen self.new slots.new (S.meaning store.new)
+            ≡ back_to K.zero_content K.image_of K.content_of (seen self.old slots.old (S.meaning store.old))
             (restore_base self.old.stack) self.old.stack.saved }
     {
         let base = self.restore_base()?;
@@ -230,10 +230,10 @@ impl Context {
         store: &S,
         words: u64,
     ) -> Result<(), Refusal>
-        ensures answer { result ≡ load_answer K.Kind.content_of (seen self.old slots.old
-            (S.Store.meaning store.now)) words }
-        ensures after { seen self.new slots.new (S.Store.meaning store.now)
-            ≡ load_after K.Kind.content_of (seen self.old slots.old (S.Store.meaning store.now)) words }
+        ensures answer { result ≡ load_answer K.content_of (seen self.old slots.old
+            (S.meaning store.now)) words }
+        ensures after { seen self.new slots.new (S.meaning store.now)
+            ≡ load_after K.content_of (seen self.old slots.old (S.meaning store.now)) words }
     {
         let first = self.load_first(words)?;
         let word = self.stack.bsp().saturating_sub(words);

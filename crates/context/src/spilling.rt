@@ -36,10 +36,10 @@ impl Context {
         end: u64,
     ) -> Result<(), MoveFault>
         ensures answer { result
-            ≡ (run_to zero_content K.Kind.image_of (seen self.old slots.now (S.Store.meaning store.old)) end).answer }
-        ensures after { seen self.new slots.now (S.Store.meaning store.new)
-            ≡ spilled (seen self.old slots.now (S.Store.meaning store.old))
-            (run_to zero_content K.Kind.image_of (seen self.old slots.now (S.Store.meaning store.old)) end) }
+            ≡ (run_to K.zero_content K.image_of (seen self.old slots.now (S.meaning store.old)) end).answer }
+        ensures after { seen self.new slots.now (S.meaning store.new)
+            ≡ spilled (seen self.old slots.now (S.meaning store.old))
+            (run_to K.zero_content K.image_of (seen self.old slots.now (S.meaning store.old)) end) }
     {
         let mut at = self.stack.cursor(self.counts);
         let moved = spill_until(&mut at, slots, store, end, self.number);
@@ -97,10 +97,10 @@ impl Context {
     ) -> Result<(), MoveFault>
         requires { (lawful_word word ≡ true) × (self.old.stack.base + sof_of word ≤ capacity_of self.old.stack.size) }
         ensures answer { result
-            ≡ (grow_run zero_content K.Kind.image_of (seen self.old slots.old (S.Store.meaning store.old)) word).answer }
-        ensures after { seen self.new slots.new (S.Store.meaning store.new)
-            ≡ grown zero_content (seen self.old slots.old (S.Store.meaning store.old))
-            (grow_run zero_content K.Kind.image_of (seen self.old slots.old (S.Store.meaning store.old)) word) word }
+            ≡ (grow_run K.zero_content K.image_of (seen self.old slots.old (S.meaning store.old)) word).answer }
+        ensures after { seen self.new slots.new (S.meaning store.new)
+            ≡ grown K.zero_content (seen self.old slots.old (S.meaning store.old))
+            (grow_run K.zero_content K.image_of (seen self.old slots.old (S.meaning store.old)) word) word }
     {
         let old_top = self.top();
         let top = self.stack.base + marker_of(word).sof();
@@ -123,9 +123,9 @@ impl Context {
         sor: u64,
     ) -> Result<u64, Refusal>
         ensures answer { result
-            ≡ alloc_answer zero_content K.Kind.image_of (seen self.old slots.old (S.Store.meaning store.old)) sof sol sor }
-        ensures after { seen self.new slots.new (S.Store.meaning store.new)
-            ≡ alloc_after zero_content K.Kind.image_of (seen self.old slots.old (S.Store.meaning store.old)) sof sol sor }
+            ≡ alloc_answer K.zero_content K.image_of (seen self.old slots.old (S.meaning store.old)) sof sol sor }
+        ensures after { seen self.new slots.new (S.meaning store.new)
+            ≡ alloc_after K.zero_content K.image_of (seen self.old slots.old (S.meaning store.old)) sof sol sor }
     {
         let word = self.allocated(sof, sol, sor)?;
         self.grow(slots, store, word)?;
@@ -139,10 +139,10 @@ impl Context {
         store: &mut S,
     ) -> Result<(u64, u64), Refusal>
         ensures answer { result
-            ≡ flush_answer zero_content K.Kind.image_of (seen self.old slots.now (S.Store.meaning store.old)) }
-        ensures after { seen self.new slots.now (S.Store.meaning store.new)
-            ≡ spilled (seen self.old slots.now (S.Store.meaning store.old))
-            (flush_run zero_content K.Kind.image_of (seen self.old slots.now (S.Store.meaning store.old))) }
+            ≡ flush_answer K.zero_content K.image_of (seen self.old slots.now (S.meaning store.old)) }
+        ensures after { seen self.new slots.now (S.meaning store.new)
+            ≡ spilled (seen self.old slots.now (S.meaning store.old))
+            (flush_run K.zero_content K.image_of (seen self.old slots.now (S.meaning store.old))) }
     {
         let bsp = self.stack.bsp();
         self.spill_to(slots, store, bsp)?;
@@ -156,9 +156,9 @@ impl Context {
         store: &mut S,
     ) -> Result<(), Refusal>
         ensures answer { result
-            ≡ early_spill_answer zero_content K.Kind.image_of (seen self.old slots.now (S.Store.meaning store.old)) }
-        ensures after { seen self.new slots.now (S.Store.meaning store.new)
-            ≡ early_spill_after zero_content K.Kind.image_of (seen self.old slots.now (S.Store.meaning store.old)) }
+            ≡ early_spill_answer K.zero_content K.image_of (seen self.old slots.now (S.meaning store.old)) }
+        ensures after { seen self.new slots.now (S.meaning store.new)
+            ≡ early_spill_after K.zero_content K.image_of (seen self.old slots.now (S.meaning store.old)) }
     {
         if self.stack.bspstore >= self.stack.bsp() {
             return Err(Refusal::Nothing);
@@ -175,15 +175,15 @@ impl Context {
     ) -> Result<(), MoveFault>
         requires { 0 < self.old.stack.lo }
         ensures answer { result
-            ≡ (early_fill_run K.Kind.content_of (seen self.old slots.old (S.Store.meaning store.now))).answer }
-        ensures after { seen self.new slots.new (S.Store.meaning store.now)
-            ≡ if_moved (early_fill_run K.Kind.content_of (seen self.old slots.old (S.Store.meaning store.now))).answer
+            ≡ (early_fill_run K.content_of (seen self.old slots.old (S.meaning store.now))).answer }
+        ensures after { seen self.new slots.new (S.meaning store.now)
+            ≡ if_moved (early_fill_run K.content_of (seen self.old slots.old (S.meaning store.now))).answer
             (early_filled (seen self.old slots.old
-            (S.Store.meaning store.now)) (early_fill_run K.Kind.content_of (seen self.old slots.old
-            (S.Store.meaning store.now))))
+            (S.meaning store.now)) (early_fill_run K.content_of (seen self.old slots.old
+            (S.meaning store.now))))
             (with_file (seen self.old slots.old
-            (S.Store.meaning store.now)) (early_fill_run K.Kind.content_of (seen self.old slots.old
-            (S.Store.meaning store.now))).file) }
+            (S.meaning store.now)) (early_fill_run K.content_of (seen self.old slots.old
+            (S.meaning store.now))).file) }
     {
         let lo = self.stack.lo;
         let mut at = self.stack.cursor(self.counts);
@@ -200,9 +200,9 @@ impl Context {
         store: &S,
     ) -> Result<(), Refusal>
         ensures answer { result
-            ≡ early_fill_answer K.Kind.content_of (seen self.old slots.old (S.Store.meaning store.now)) }
-        ensures after { seen self.new slots.new (S.Store.meaning store.now)
-            ≡ early_fill_after K.Kind.content_of (seen self.old slots.old (S.Store.meaning store.now)) }
+            ≡ early_fill_answer K.content_of (seen self.old slots.old (S.meaning store.now)) }
+        ensures after { seen self.new slots.new (S.meaning store.now)
+            ≡ early_fill_after K.content_of (seen self.old slots.old (S.meaning store.now)) }
     {
         let lo = self.stack.lo;
         if lo == 0 || u64::from(self.top().saturating_sub(lo)) >= slots.len() as u64 {

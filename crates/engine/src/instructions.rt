@@ -64,7 +64,7 @@ pub enum Answer {
 
 // The answer of a read.
 pub(crate) fn shown<K: Kind>(register: Slot<K>) -> Answer
-    ensures { result ≡ shown_as K.Kind.image_of register }
+    ensures { result ≡ shown_as K.image_of register }
 {
     Answer::Register {
         image: register.content.image(),

@@ -1,4 +1,6 @@
 // The table engine: eight contexts over one file and one store, one instruction at a time.
+#![tactic(auto)]
+
 ghost use Rattle.std.specs.Prelude.{◌≡◌, ℕ, ◌+◌, ◌<◌, ◌≤◌, true, false, length, Ok, Err};
 ghost use Rattle.engine.specs.Hosts.{hosted};
 ghost use Rattle.context.specs.declared.refusals.Refusal.TheVariants.{Host as WrongHost};
@@ -66,11 +68,11 @@ impl Engine {
         store: &mut S,
         instruction: Instruction,
     ) -> Result<Answer, Refusal>
-        ensures answer { result ≡ step_answer zero_content K.Kind.image_of K.Kind.content_of
-            (hosted self.old.machine slots.old (S.Store.meaning store.old)) instruction }
-        ensures after { hosted self.new.machine slots.new (S.Store.meaning store.new)
-            ≡ step_after zero_content K.Kind.image_of K.Kind.content_of K.Kind.sum_of
-            (hosted self.old.machine slots.old (S.Store.meaning store.old)) instruction }
+        ensures answer { result ≡ step_answer K.zero_content K.image_of K.content_of
+            (hosted self.old.machine slots.old (S.meaning store.old)) instruction }
+        ensures after { hosted self.new.machine slots.new (S.meaning store.new)
+            ≡ step_after K.zero_content K.image_of K.content_of K.sum_of
+            (hosted self.old.machine slots.old (S.meaning store.old)) instruction }
         ensures restored { NeverTooDeep instruction result }
         ensures words { FewWritten instruction self.old.machine.counts.written self.new.machine.counts.written }
     {
@@ -91,11 +93,11 @@ impl Engine {
         instruction: Instruction,
     ) -> Result<Answer, Refusal>
         requires { (in_range instruction ≡ true) × (length slots.old ≡ self.old.machine.slots) }
-        ensures answer { result ≡ ruled zero_content K.Kind.image_of K.Kind.content_of
-            (hosted self.old.machine slots.old (S.Store.meaning store.old)) instruction }
-        ensures after { hosted self.new.machine slots.new (S.Store.meaning store.new)
-            ≡ ruled_after zero_content K.Kind.image_of K.Kind.content_of K.Kind.sum_of
-            (hosted self.old.machine slots.old (S.Store.meaning store.old)) instruction }
+        ensures answer { result ≡ ruled K.zero_content K.image_of K.content_of
+            (hosted self.old.machine slots.old (S.meaning store.old)) instruction }
+        ensures after { hosted self.new.machine slots.new (S.meaning store.new)
+            ≡ ruled_after K.zero_content K.image_of K.content_of K.sum_of
+            (hosted self.old.machine slots.old (S.meaning store.old)) instruction }
     {
         match instruction {
             Instruction::Begin {

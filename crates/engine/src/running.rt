@@ -33,12 +33,12 @@ impl Engine {
     ) -> Result<Answer, Refusal>
         requires state { self.old.machine.state ≡ Running }
         requires file { length slots.old ≡ self.old.machine.slots }
-        ensures answer { result ≡ answered Marker (alloc_answer zero_content K.Kind.image_of (scene_of
-            (hosted self.old.machine slots.old (S.Store.meaning store.old))) sof sol sor) }
-        ensures after { hosted self.new.machine slots.new (S.Store.meaning store.new)
-            ≡ lifted (hosted self.old.machine slots.old (S.Store.meaning store.old))
-            (alloc_after zero_content K.Kind.image_of (scene_of (hosted self.old.machine slots.old
-            (S.Store.meaning store.old))) sof sol sor) }
+        ensures answer { result ≡ answered Marker (alloc_answer K.zero_content K.image_of (scene_of
+            (hosted self.old.machine slots.old (S.meaning store.old))) sof sol sor) }
+        ensures after { hosted self.new.machine slots.new (S.meaning store.new)
+            ≡ lifted (hosted self.old.machine slots.old (S.meaning store.old))
+            (alloc_after K.zero_content K.image_of (scene_of (hosted self.old.machine slots.old
+            (S.meaning store.old))) sof sol sor) }
     {
         let mut context = self.context();
         let previous = context.alloc(slots, store, sof, sol, sor);
@@ -64,15 +64,15 @@ impl Engine {
     ) -> Result<Answer, Refusal>
         requires state { self.old.machine.state ≡ Running }
         requires file { length slots.old ≡ self.old.machine.slots }
-        ensures answer { result ≡ answered (λ _. Done) (back_to_answer zero_content K.Kind.image_of K.Kind.content_of
+        ensures answer { result ≡ answered (λ _. Done) (back_to_answer K.zero_content K.image_of K.content_of
             (scene_of (hosted self.old.machine slots.old
-            (S.Store.meaning store.old))) (return_base (record_at self.old.machine
+            (S.meaning store.old))) (return_base (record_at self.old.machine
             self.old.machine.current)) (record_at self.old.machine self.old.machine.current).previous) }
-        ensures after { hosted self.new.machine slots.new (S.Store.meaning store.new)
+        ensures after { hosted self.new.machine slots.new (S.meaning store.new)
             ≡ lifted (hosted self.old.machine slots.old
-            (S.Store.meaning store.old)) (back_to zero_content K.Kind.image_of K.Kind.content_of
+            (S.meaning store.old)) (back_to K.zero_content K.image_of K.content_of
             (scene_of (hosted self.old.machine slots.old
-            (S.Store.meaning store.old))) (return_base (record_at self.old.machine
+            (S.meaning store.old))) (return_base (record_at self.old.machine
             self.old.machine.current)) (record_at self.old.machine self.old.machine.current).previous) }
     {
         let mut context = self.context();
@@ -103,7 +103,7 @@ impl Engine {
         ensures answer { result ≡ answered (λ _. Done) (one_register (record_at self.now.machine
             self.now.machine.current) register) }
         ensures file { slots.new
-            ≡ write_file K.Kind.content_of (record_at self.now.machine self.now.machine.current)
+            ≡ write_file K.content_of (record_at self.now.machine self.now.machine.current)
             slots.old register word (nat == 1) }
     {
         self.context().write(slots, register, word, nat == 1)?;
@@ -118,7 +118,7 @@ impl Engine {
     ) -> Result<Answer, Refusal>
         ensures answer { result ≡ answered (λ _. Done) (two_registers (record_at self.now.machine
             self.now.machine.current) target source) }
-        ensures file { slots.new ≡ copy_file zero_content (record_at self.now.machine
+        ensures file { slots.new ≡ copy_file K.zero_content (record_at self.now.machine
             self.now.machine.current) slots.old target source }
     {
         self.context().copy(slots, target, source)?;
@@ -135,7 +135,7 @@ impl Engine {
         ensures answer { result ≡ answered (λ _. Done) (three_registers (record_at self.now.machine
             self.now.machine.current) target left right) }
         ensures file { slots.new
-            ≡ add_file zero_content K.Kind.sum_of (record_at self.now.machine self.now.machine.current)
+            ≡ add_file K.zero_content K.sum_of (record_at self.now.machine self.now.machine.current)
             slots.old target left right }
     {
         self.context().add(slots, target, left, right)?;
@@ -143,7 +143,7 @@ impl Engine {
     }
 
     pub(crate) fn read<K: Kind>(&self, slots: &[Slot<K>], register: u64) -> Result<Answer, Refusal>
-        ensures { result ≡ answered (shown_as K.Kind.image_of) (read_answer zero_content (record_at self.now.machine
+        ensures { result ≡ answered (shown_as K.image_of) (read_answer K.zero_content (record_at self.now.machine
             self.now.machine.current) slots.now register) }
     {
         Ok(shown(self.context().read(slots, register)?))
@@ -196,15 +196,15 @@ impl Engine {
     ) -> Result<Answer, Refusal>
         requires state { is_closed self.old.machine.state ≡ true }
         requires file { length slots.old ≡ self.old.machine.slots }
-        ensures answer { result ≡ answered (λ _. Done) (back_to_answer zero_content K.Kind.image_of K.Kind.content_of
+        ensures answer { result ≡ answered (λ _. Done) (back_to_answer K.zero_content K.image_of K.content_of
             (scene_of (hosted self.old.machine slots.old
-            (S.Store.meaning store.old))) (restore_base (record_at self.old.machine
+            (S.meaning store.old))) (restore_base (record_at self.old.machine
             self.old.machine.current)) (record_at self.old.machine self.old.machine.current).saved) }
-        ensures after { hosted self.new.machine slots.new (S.Store.meaning store.new)
+        ensures after { hosted self.new.machine slots.new (S.meaning store.new)
             ≡ leaves (hosted self.old.machine slots.old
-            (S.Store.meaning store.old)) (back_to zero_content K.Kind.image_of K.Kind.content_of
+            (S.meaning store.old)) (back_to K.zero_content K.image_of K.content_of
             (scene_of (hosted self.old.machine slots.old
-            (S.Store.meaning store.old))) (restore_base (record_at self.old.machine
+            (S.meaning store.old))) (restore_base (record_at self.old.machine
             self.old.machine.current)) (record_at self.old.machine self.old.machine.current).saved) result Running }
     {
         let mut context = self.context();
@@ -228,14 +228,14 @@ impl Engine {
     ) -> Result<Answer, Refusal>
         requires driven { is_idle self.old.machine.state ≡ false }
         requires state { is_flushed self.old.machine.state ≡ false }
-        ensures answer { result ≡ answered flushed_as (flush_answer zero_content K.Kind.image_of (scene_of
-            (hosted self.old.machine slots.now (S.Store.meaning store.old)))) }
-        ensures after { hosted self.new.machine slots.now (S.Store.meaning store.new)
+        ensures answer { result ≡ answered flushed_as (flush_answer K.zero_content K.image_of (scene_of
+            (hosted self.old.machine slots.now (S.meaning store.old)))) }
+        ensures after { hosted self.new.machine slots.now (S.meaning store.new)
             ≡ leaves (hosted self.old.machine slots.now
-            (S.Store.meaning store.old)) (spilled (scene_of (hosted self.old.machine slots.now
-            (S.Store.meaning store.old)))
-            (flush_run zero_content K.Kind.image_of (scene_of (hosted self.old.machine slots.now
-            (S.Store.meaning store.old))))) result (after_flush self.old.machine.state) }
+            (S.meaning store.old)) (spilled (scene_of (hosted self.old.machine slots.now
+            (S.meaning store.old)))
+            (flush_run K.zero_content K.image_of (scene_of (hosted self.old.machine slots.now
+            (S.meaning store.old))))) result (after_flush self.old.machine.state) }
     {
         let mut context = self.context();
         match context.flush(slots, store) {
@@ -258,15 +258,15 @@ impl Engine {
     ) -> Result<Answer, Refusal>
         requires driven { is_idle self.old.machine.state ≡ false }
         requires state { is_flushed self.old.machine.state ≡ false }
-        ensures answer { result ≡ cond (spills_early (hosted self.old.machine slots.now (S.Store.meaning store.old)))
-            (answered (λ _. Done) (early_spill_answer zero_content K.Kind.image_of (scene_of
-            (hosted self.old.machine slots.now (S.Store.meaning store.old))))) (Err Mode) }
-        ensures after { hosted self.new.machine slots.now (S.Store.meaning store.new)
+        ensures answer { result ≡ cond (spills_early (hosted self.old.machine slots.now (S.meaning store.old)))
+            (answered (λ _. Done) (early_spill_answer K.zero_content K.image_of (scene_of
+            (hosted self.old.machine slots.now (S.meaning store.old))))) (Err Mode) }
+        ensures after { hosted self.new.machine slots.now (S.meaning store.new)
             ≡ (if spills_early (hosted self.old.machine slots.now
-            (S.Store.meaning store.old)) then lifted (hosted self.old.machine slots.now
-            (S.Store.meaning store.old))
-            (early_spill_after zero_content K.Kind.image_of (scene_of (hosted self.old.machine slots.now
-            (S.Store.meaning store.old)))) else hosted self.old.machine slots.now (S.Store.meaning store.old)) }
+            (S.meaning store.old)) then lifted (hosted self.old.machine slots.now
+            (S.meaning store.old))
+            (early_spill_after K.zero_content K.image_of (scene_of (hosted self.old.machine slots.now
+            (S.meaning store.old)))) else hosted self.old.machine slots.now (S.meaning store.old)) }
     {
         if self.machine.mode % 2 != 1 {
             return Err(Refusal::Mode);
@@ -287,15 +287,15 @@ impl Engine {
         requires driven { is_idle self.old.machine.state ≡ false }
         requires state { is_flushed self.old.machine.state ≡ false }
         requires file { length slots.old ≡ self.old.machine.slots }
-        ensures answer { result ≡ cond (fills_early (hosted self.old.machine slots.old (S.Store.meaning store.now)))
-            (answered (λ _. Done) (early_fill_answer K.Kind.content_of (scene_of (hosted self.old.machine slots.old
-            (S.Store.meaning store.now))))) (Err Mode) }
-        ensures after { hosted self.new.machine slots.new (S.Store.meaning store.now)
+        ensures answer { result ≡ cond (fills_early (hosted self.old.machine slots.old (S.meaning store.now)))
+            (answered (λ _. Done) (early_fill_answer K.content_of (scene_of (hosted self.old.machine slots.old
+            (S.meaning store.now))))) (Err Mode) }
+        ensures after { hosted self.new.machine slots.new (S.meaning store.now)
             ≡ (if fills_early (hosted self.old.machine slots.old
-            (S.Store.meaning store.now)) then lifted (hosted self.old.machine slots.old
-            (S.Store.meaning store.now))
-            (early_fill_after K.Kind.content_of (scene_of (hosted self.old.machine slots.old
-            (S.Store.meaning store.now)))) else hosted self.old.machine slots.old (S.Store.meaning store.now)) }
+            (S.meaning store.now)) then lifted (hosted self.old.machine slots.old
+            (S.meaning store.now))
+            (early_fill_after K.content_of (scene_of (hosted self.old.machine slots.old
+            (S.meaning store.now)))) else hosted self.old.machine slots.old (S.meaning store.now)) }
     {
         if self.machine.mode / 2 % 2 != 1 {
             return Err(Refusal::Mode);
@@ -315,12 +315,12 @@ impl Engine {
     ) -> Result<Answer, Refusal>
         requires state { self.old.machine.state ≡ Flushed }
         requires file { length slots.old ≡ self.old.machine.slots }
-        ensures answer { result ≡ answered (λ _. Done) (load_answer K.Kind.content_of (scene_of
-            (hosted self.old.machine slots.old (S.Store.meaning store.now))) words) }
-        ensures after { hosted self.new.machine slots.new (S.Store.meaning store.now)
-            ≡ leaves (hosted self.old.machine slots.old (S.Store.meaning store.now))
-            (load_after K.Kind.content_of (scene_of (hosted self.old.machine slots.old
-            (S.Store.meaning store.now))) words) result Covered }
+        ensures answer { result ≡ answered (λ _. Done) (load_answer K.content_of (scene_of
+            (hosted self.old.machine slots.old (S.meaning store.now))) words) }
+        ensures after { hosted self.new.machine slots.new (S.meaning store.now)
+            ≡ leaves (hosted self.old.machine slots.old (S.meaning store.now))
+            (load_after K.content_of (scene_of (hosted self.old.machine slots.old
+            (S.meaning store.now))) words) result Covered }
     {
         let mut context = self.context();
         match context.load(slots, store, words) {

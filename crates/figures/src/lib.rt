@@ -1,4 +1,6 @@
 // Twelve figures worked out by hand: the definitions have them, and the code computes them.
+#![tactic(auto)]
+
 ghost use Rattle.std.specs.Prelude.{◌≡◌, true, false, [], ◌∷◌, Some, None};
 ghost use Rattle.frame.specs.Markers.{sof_of, sol_of, sor_of, rotation_of, lawful_word};
 ghost use Rattle.figures.specs.Figures.{Figures};

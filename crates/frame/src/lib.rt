@@ -1,4 +1,6 @@
 // Frame markers, their words, and the renaming of a frame's registers.
+#![tactic(auto)]
+
 ghost use Rattle.std.specs.Prelude.{◌-◌, ◌*◌, ◌≤◌};
 
 mod fields;

@@ -17,7 +17,7 @@ use store::Store;
 
 // One word: the store's own fault where it is shut or missing.
 fn ask<S: Store>(store: &S, word: u64, place: Place) -> Result<(), MoveFault>
-    ensures { result ≡ asked_at (S.Store.meaning store.now) word place }
+    ensures { result ≡ asked_at (S.meaning store.now) word place }
 {
     if store.is_open(word) {
         return Ok(());
@@ -28,10 +28,10 @@ fn ask<S: Store>(store: &S, word: u64, place: Place) -> Result<(), MoveFault>
 
 // The words that spills until `end` write.
 pub fn ask_spills<S: Store>(at: &Cursor, store: &S, end: u64, context: u64) -> Result<(), MoveFault>
-    ensures answer { result ≡ spills_asked (S.Store.meaning store.now) context
+    ensures answer { result ≡ spills_asked (S.meaning store.now) context
         at.now.start (end - at.now.bspstore) at.now.bspstore }
-    ensures told { Told (S.Store.meaning store.now) Spill context (SpillNeeds at.now.start at.now.bspstore end) result }
-    ensures lowest { Lowest (S.Store.meaning store.now) (SpillNeeds at.now.start at.now.bspstore end) result }
+    ensures told { Told (S.meaning store.now) Spill context (SpillNeeds at.now.start at.now.bspstore end) result }
+    ensures lowest { Lowest (S.meaning store.now) (SpillNeeds at.now.start at.now.bspstore end) result }
 {
     for word in at.bspstore..end {
         let position = positions_below(at.start, word);
@@ -50,7 +50,7 @@ pub fn ask_spills<S: Store>(at: &Cursor, store: &S, end: u64, context: u64) -> R
 
 // The words that a fill of one position reads.
 fn ask_fill<S: Store>(at: &Cursor, store: &S, position: u32, context: u64) -> Result<(), MoveFault>
-    ensures { result ≡ fill_answer (S.Store.meaning store.now) context at.now position }
+    ensures { result ≡ fill_answer (S.meaning store.now) context at.now position }
 {
     let place = Place {
         movement: Movement::Fill,
@@ -73,10 +73,10 @@ pub fn ask_fills<S: Store>(
     high: u32,
     context: u64,
 ) -> Result<(), MoveFault>
-    ensures answer { result ≡ fills_asked (S.Store.meaning store.now) context at.now (high - low) low }
-    ensures told { Told (S.Store.meaning store.now) Fill context (FillNeeds at.now low high) result }
-    ensures lowest { Aligned (length (S.Store.meaning store.now).words) → Lowest
-        (S.Store.meaning store.now) (FillNeeds at.now low high) result }
+    ensures answer { result ≡ fills_asked (S.meaning store.now) context at.now (high - low) low }
+    ensures told { Told (S.meaning store.now) Fill context (FillNeeds at.now low high) result }
+    ensures lowest { Aligned (length (S.meaning store.now).words) → Lowest
+        (S.meaning store.now) (FillNeeds at.now low high) result }
 {
     for position in low..high {
         ask_fill(at, store, position, context)?;
@@ -91,15 +91,15 @@ pub fn ask_lowering<S: Store>(
     word: u64,
     context: u64,
 ) -> Result<(), MoveFault>
-    ensures answer { result ≡ lower_answer (S.Store.meaning store.now) context at.now word }
-    ensures told { Told (S.Store.meaning store.now) Lowering context (LowerNeeds at.now word) result }
+    ensures answer { result ≡ lower_answer (S.meaning store.now) context at.now word }
+    ensures told { Told (S.meaning store.now) Lowering context (LowerNeeds at.now word) result }
 {
     ask_lower(at, store, word, context)
 }
 
 // Asks about that word.
 fn ask_lower<S: Store>(at: &Cursor, store: &S, word: u64, context: u64) -> Result<(), MoveFault>
-    ensures { result ≡ lower_answer (S.Store.meaning store.now) context at.now word }
+    ensures { result ≡ lower_answer (S.meaning store.now) context at.now word }
 {
     if !reads_collection(at, word) {
         return Ok(());

@@ -26,11 +26,11 @@ fn fill_near<K: Kind, S: Store>(
     store: &S,
     position: u32,
 ) -> Result<(), StoreFault>
-    ensures answer { result ≡ write_of (S.Store.meaning store.now) (word_of at.old position) }
-    ensures file { slots.new ≡ cond (is_open (S.Store.meaning store.now) (word_of at.old position))
-        (register_put slots.old position (filled_from K.Kind.content_of at.old.rnat at.old (S.Store.meaning store.now) position))
+    ensures answer { result ≡ write_of (S.meaning store.now) (word_of at.old position) }
+    ensures file { slots.new ≡ cond (is_open (S.meaning store.now) (word_of at.old position))
+        (register_put slots.old position (filled_from K.content_of at.old.rnat at.old (S.meaning store.now) position))
         slots.old }
-    ensures cursor { at.new ≡ (if is_open (S.Store.meaning store.now) (word_of
+    ensures cursor { at.new ≡ (if is_open (S.meaning store.now) (word_of
         at.old position) then read_more 1 at.old else at.old) }
 {
     let word = address_of(at.start, position);
@@ -55,11 +55,11 @@ fn fill_far<K: Kind, S: Store>(
     store: &S,
     position: u32,
 ) -> Result<(), StoreFault>
-    ensures answer { result ≡ far_answer (S.Store.meaning store.now) (word_of at.old position) }
-    ensures file { slots.new ≡ cond (far_open (S.Store.meaning store.now) (word_of at.old position))
-        (register_put slots.old position (filled_from K.Kind.content_of (far_bits (S.Store.meaning store.now) (word_of at.old position))
-        at.old (S.Store.meaning store.now) position)) slots.old }
-    ensures cursor { at.new ≡ (if far_open (S.Store.meaning store.now) (word_of
+    ensures answer { result ≡ far_answer (S.meaning store.now) (word_of at.old position) }
+    ensures file { slots.new ≡ cond (far_open (S.meaning store.now) (word_of at.old position))
+        (register_put slots.old position (filled_from K.content_of (far_bits (S.meaning store.now) (word_of at.old position))
+        at.old (S.meaning store.now) position)) slots.old }
+    ensures cursor { at.new ≡ (if far_open (S.meaning store.now) (word_of
         at.old position) then read_more 2 at.old else at.old) }
 {
     let word = address_of(at.start, position);
@@ -86,10 +86,10 @@ pub fn fill<K: Kind, S: Store>(
     position: u32,
     context: u64,
 ) -> Result<(), MoveFault>
-    ensures answer { result ≡ fill_answer (S.Store.meaning store.now) context at.old position }
-    ensures file { slots.new ≡ cond (fill_open at.old (S.Store.meaning store.now) position)
-        (register_put slots.old position (filled K.Kind.content_of at.old (S.Store.meaning store.now) position)) slots.old }
-    ensures cursor { at.new ≡ cond (fill_open at.old (S.Store.meaning store.now) position)
+    ensures answer { result ≡ fill_answer (S.meaning store.now) context at.old position }
+    ensures file { slots.new ≡ cond (fill_open at.old (S.meaning store.now) position)
+        (register_put slots.old position (filled K.content_of at.old (S.meaning store.now) position)) slots.old }
+    ensures cursor { at.new ≡ cond (fill_open at.old (S.meaning store.now) position)
         (read_more (fill_reads at.old position) at.old) at.old }
 {
     let place = Place {
@@ -113,14 +113,14 @@ pub fn fill_run<K: Kind, S: Store>(
     high: u32,
     context: u64,
 ) -> Result<(), MoveFault>
-    ensures answer { result ≡ (fill_run K.Kind.content_of (S.Store.meaning store.now) context (high - low) low at.old
+    ensures answer { result ≡ (fill_run K.content_of (S.meaning store.now) context (high - low) low at.old
         slots.old).answer }
-    ensures file { slots.new ≡ (fill_run K.Kind.content_of
-        (S.Store.meaning store.now) context (high - low) low at.old slots.old).file }
-    ensures cursor { at.new ≡ (fill_run K.Kind.content_of
-        (S.Store.meaning store.now) context (high - low) low at.old slots.old).cursor }
-    ensures closed { FillShows zero_content K.Kind.content_of context low high at.old
-        (S.Store.meaning store.now) slots.old result at.new
+    ensures file { slots.new ≡ (fill_run K.content_of
+        (S.meaning store.now) context (high - low) low at.old slots.old).file }
+    ensures cursor { at.new ≡ (fill_run K.content_of
+        (S.meaning store.now) context (high - low) low at.old slots.old).cursor }
+    ensures closed { FillShows K.zero_content K.content_of context low high at.old
+        (S.meaning store.now) slots.old result at.new
         slots.new }
 {
     for position in low..high {

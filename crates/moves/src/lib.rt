@@ -1,4 +1,6 @@
 // Moves of registers between the file and the backing store (docs/RULES.md, "Moves"), for every store and every kind.
+#![tactic(auto)]
+
 ghost use Rattle.std.specs.Prelude.{◌≡◌};
 ghost use Rattle.moves.specs.Steps.{placed};
 

@@ -20,9 +20,9 @@ pub(crate) fn reads_collection(at: &Cursor, word: u64) -> bool
 
 // RNAT from the collection of the new group.
 fn lower_far<S: Store>(at: &mut Cursor, store: &S, word: u64) -> Result<(), StoreFault>
-    ensures answer { result ≡ write_of (S.Store.meaning store.now) (collection_of word) }
-    ensures cursor { at.new ≡ cond (is_open (S.Store.meaning store.now) (collection_of word))
-        (lowered_to word (far_bits (S.Store.meaning store.now) word) (read_more 1 at.old)) at.old }
+    ensures answer { result ≡ write_of (S.meaning store.now) (collection_of word) }
+    ensures cursor { at.new ≡ cond (is_open (S.meaning store.now) (collection_of word))
+        (lowered_to word (far_bits (S.meaning store.now) word) (read_more 1 at.old)) at.old }
 {
     let collection = store.read(collection_of(word))?;
     at.counts.read = at.counts.read.saturating_add(1);
@@ -41,9 +41,9 @@ fn lower_near(at: &mut Cursor, word: u64)
 
 // Lowers BSPSTORE to `word`.
 pub fn lower<S: Store>(at: &mut Cursor, store: &S, word: u64, context: u64) -> Result<(), MoveFault>
-    ensures answer { result ≡ lower_answer (S.Store.meaning store.now) context at.old word }
-    ensures cursor { at.new ≡ cond (lower_open at.old (S.Store.meaning store.now) word)
-        (lowered (S.Store.meaning store.now) at.old word) at.old }
+    ensures answer { result ≡ lower_answer (S.meaning store.now) context at.old word }
+    ensures cursor { at.new ≡ cond (lower_open at.old (S.meaning store.now) word)
+        (lowered (S.meaning store.now) at.old word) at.old }
 {
     if reads_collection(at, word) {
         let place = Place {

@@ -23,10 +23,10 @@ fn advance(at: &mut Cursor, rnat: u64)
 
 // Writes RNAT to the collection at BSPSTORE, and clears it.
 fn spill_collection<S: Store>(at: &mut Cursor, store: &mut S) -> Result<(), StoreFault>
-    ensures answer { result ≡ write_of (S.Store.meaning store.old) at.old.bspstore }
-    ensures words { S.Store.meaning store.new
-        ≡ written (S.Store.meaning store.old) at.old.bspstore at.old.rnat }
-    ensures cursor { at.new ≡ (if is_open (S.Store.meaning store.old) at.old.bspstore then past_collection
+    ensures answer { result ≡ write_of (S.meaning store.old) at.old.bspstore }
+    ensures words { S.meaning store.new
+        ≡ written (S.meaning store.old) at.old.bspstore at.old.rnat }
+    ensures cursor { at.new ≡ (if is_open (S.meaning store.old) at.old.bspstore then past_collection
         at.old else at.old) }
 {
     store.write(at.bspstore, at.rnat)?;
@@ -40,10 +40,10 @@ fn spill_register<K: Kind, S: Store>(
     register: Slot<K>,
     store: &mut S,
 ) -> Result<(), StoreFault>
-    ensures answer { result ≡ write_of (S.Store.meaning store.old) at.old.bspstore }
-    ensures words { S.Store.meaning store.new
-        ≡ written (S.Store.meaning store.old) at.old.bspstore (K.Kind.image_of register.content) }
-    ensures cursor { at.new ≡ (if is_open (S.Store.meaning store.old)
+    ensures answer { result ≡ write_of (S.meaning store.old) at.old.bspstore }
+    ensures words { S.meaning store.new
+        ≡ written (S.meaning store.old) at.old.bspstore (K.image_of register.content) }
+    ensures cursor { at.new ≡ (if is_open (S.meaning store.old)
         at.old.bspstore then past_register register.nat at.old else at.old) }
 {
     store.write(at.bspstore, register.content.image())?;
@@ -59,11 +59,11 @@ pub fn spill_step<K: Kind, S: Store>(
     store: &mut S,
     context: u64,
 ) -> Result<(), MoveFault>
-    ensures answer { result ≡ spill_answer (S.Store.meaning store.old) context at.old }
-    ensures words { S.Store.meaning store.new
-        ≡ written (S.Store.meaning store.old) at.old.bspstore (spill_value zero_content K.Kind.image_of slots.now at.old) }
-    ensures cursor { at.new ≡ cond (is_open (S.Store.meaning store.old) at.old.bspstore)
-        (spill_past zero_content slots.now at.old) at.old }
+    ensures answer { result ≡ spill_answer (S.meaning store.old) context at.old }
+    ensures words { S.meaning store.new
+        ≡ written (S.meaning store.old) at.old.bspstore (spill_value K.zero_content K.image_of slots.now at.old) }
+    ensures cursor { at.new ≡ cond (is_open (S.meaning store.old) at.old.bspstore)
+        (spill_past K.zero_content slots.now at.old) at.old }
 {
     let position = positions_below(at.start, at.bspstore);
     let place = Place {
@@ -89,16 +89,16 @@ pub fn spill_until<K: Kind, S: Store>(
     end: u64,
     context: u64,
 ) -> Result<(), MoveFault>
-    ensures answer { result ≡ (spill_run zero_content K.Kind.image_of slots.now context (end - at.old.bspstore) at.old
-        (S.Store.meaning store.old)).answer }
-    ensures words { S.Store.meaning store.new
-        ≡ (spill_run zero_content K.Kind.image_of slots.now context (end - at.old.bspstore) at.old (S.Store.meaning store.old)).meaning }
-    ensures cursor { at.new ≡ (spill_run zero_content K.Kind.image_of
+    ensures answer { result ≡ (spill_run K.zero_content K.image_of slots.now context (end - at.old.bspstore) at.old
+        (S.meaning store.old)).answer }
+    ensures words { S.meaning store.new
+        ≡ (spill_run K.zero_content K.image_of slots.now context (end - at.old.bspstore) at.old (S.meaning store.old)).meaning }
+    ensures cursor { at.new ≡ (spill_run K.zero_content K.image_of
         slots.now context (end - at.old.bspstore) at.old
-        (S.Store.meaning store.old)).cursor }
-    ensures closed { SpillShows zero_content K.Kind.image_of slots.now context end at.old
-        (S.Store.meaning store.old) result at.new
-        (S.Store.meaning store.new) }
+        (S.meaning store.old)).cursor }
+    ensures closed { SpillShows K.zero_content K.image_of slots.now context end at.old
+        (S.meaning store.old) result at.new
+        (S.meaning store.new) }
 {
     for _word in at.bspstore..end {
         spill_step(at, slots, store, context)?;

@@ -19,13 +19,13 @@ fn refill<K: Kind, S: Store>(
     high: u32,
     context: u64,
 ) -> Result<(), MoveFault>
-    ensures answer { result ≡ (refill_run zero_content K.Kind.content_of
-        (S.Store.meaning store.now) context (high - low) low at.old slots.old).answer }
-    ensures file { slots.new ≡ (refill_run zero_content K.Kind.content_of
-        (S.Store.meaning store.now) context (high - low) low at.old
+    ensures answer { result ≡ (refill_run K.zero_content K.content_of
+        (S.meaning store.now) context (high - low) low at.old slots.old).answer }
+    ensures file { slots.new ≡ (refill_run K.zero_content K.content_of
+        (S.meaning store.now) context (high - low) low at.old
         slots.old).file }
-    ensures cursor { at.new ≡ (refill_run zero_content K.Kind.content_of
-        (S.Store.meaning store.now) context (high - low) low at.old
+    ensures cursor { at.new ≡ (refill_run K.zero_content K.content_of
+        (S.meaning store.now) context (high - low) low at.old
         slots.old).cursor }
 {
     clear_registers(slots, u64::from(low), u64::from(high));
@@ -41,18 +41,18 @@ pub fn spill_and_refill<K: Kind, S: Store>(
     end: u32,
     context: u64,
 ) -> Result<(), MoveFault>
-    ensures answer { result ≡ (round_trip zero_content K.Kind.image_of K.Kind.content_of context end at.old
-        (S.Store.meaning store.old) slots.old).answer }
-    ensures file { slots.new ≡ (round_trip zero_content K.Kind.image_of K.Kind.content_of context end at.old
-        (S.Store.meaning store.old)
+    ensures answer { result ≡ (round_trip K.zero_content K.image_of K.content_of context end at.old
+        (S.meaning store.old) slots.old).answer }
+    ensures file { slots.new ≡ (round_trip K.zero_content K.image_of K.content_of context end at.old
+        (S.meaning store.old)
         slots.old).file }
-    ensures cursor { at.new ≡ (round_trip zero_content K.Kind.image_of K.Kind.content_of context end at.old
-        (S.Store.meaning store.old)
+    ensures cursor { at.new ≡ (round_trip K.zero_content K.image_of K.content_of context end at.old
+        (S.meaning store.old)
         slots.old).cursor }
-    ensures words { S.Store.meaning store.new
-        ≡ (spill_run zero_content K.Kind.image_of slots.old context (end - at.old.bspstore) at.old (S.Store.meaning store.old)).meaning }
-    ensures back { Ready (length slots.old) end at.old (S.Store.meaning store.old)
-        → ComesBack zero_content end at.old (S.Store.meaning store.old) slots.old result at.new (S.Store.meaning store.new) slots.new }
+    ensures words { S.meaning store.new
+        ≡ (spill_run K.zero_content K.image_of slots.old context (end - at.old.bspstore) at.old (S.meaning store.old)).meaning }
+    ensures back { Ready (length slots.old) end at.old (S.meaning store.old)
+        → ComesBack K.zero_content end at.old (S.meaning store.old) slots.old result at.new (S.meaning store.new) slots.new }
 {
     let end = u64::from(end);
     let low = positions_below(at.start, at.bspstore.min(end)) as u32;

@@ -2,7 +2,7 @@
 use Rattle.std.specs.Prelude.{◌≡◌, ℕ, ◌+◌, ◌*◌, ◌/◌, ◌%◌, ◌^◌, ◌<◌, cond, T, from_bits, nat_lt, to_bits}
 use mathlib.Core.HLevel.{is_prop→PathP}
 use Rattle.std.proofs.Math.Bridge.{le_prop}
-use Rattle.std.proofs.Common.{arith}
+use Rattle.std.proofs.Common.{mod-lt, lit<}
 use Rattle.std.proofs.Math.Dec.{T_prop}
 use Rattle.std.specs.Float.Ieee.{fits, add}
 use Rattle.std.specs.Float.{binary32}
@@ -13,7 +13,7 @@ use Rattle.register.specs.declared.pair.Pair.{Pair}
 
 -- the word with the number n, modulo 2 ^ 64
 abbrev pub word_of : ℕ → Word
-word_of n = record { value = n % 2 ^ 64; fits = omega arith }
+word_of n = record { value = n % 2 ^ 64; fits = mod-lt n (lit< tt) }
 
 -- the sum of two words, modulo 2 ^ 64
 abbrev pub word_sum : Word → Word → Word

@@ -1,2 +1,4 @@
 pub mod Contents
+pub mod KindLaws
+pub mod Lanes
 pub mod Slots

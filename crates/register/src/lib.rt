@@ -1,11 +1,11 @@
 // Kinds of register, and the ring of slots that holds registers of one kind.
-ghost use Rattle.std.specs.Prelude.{◌≡◌, ℕ, ◌+◌, ◌*◌, ◌/◌, ◌%◌, ◌^◌, ◌<◌, from_bits, to_bits};
-ghost use Rattle.std.proofs.Common.{ap, ◌∙◌, arith, rules};
-ghost use Rattle.std.proofs.Math.Path.{refl};
+#![tactic(auto)]
+
+ghost use Rattle.std.specs.Prelude.{◌≡◌, ℕ, ◌+◌, ◌*◌, ◌/◌, ◌%◌, ◌^◌, ◌<◌, refl};
 ghost use Rattle.std.specs.Float.Ieee.{add, binary32};
 ghost use Rattle.register.specs.declared.word.Word.{Word};
-ghost use Rattle.register.specs.Contents.{word_of, word_sum, pair_of, pair_of_bits, pair_image, pair_sum, lane_bits, same_word, same_pair};
-ghost use Rattle.std.specs.Float.Ieee.Bits.{of_bits-to_bits, to_bits-lt};
+ghost use Rattle.register.specs.Contents.{word_of, word_sum, pair_of, pair_of_bits, pair_image, pair_sum, lane_bits};
+ghost use Rattle.register.specs.KindLaws.{word_restored, word_bounded, pair_restored, pair_blank, pair_bounded};
 
 mod pair;
 mod ring;
@@ -62,11 +62,11 @@ impl Kind for Word {
 
     ghost sum_of = { word_sum };
 
-    ghost restored = { λ c. same_word _ _ (omega (arith, c.fits)) };
+    ghost restored = { word_restored };
 
-    ghost blank = { first_of (Prim.search rules, Prim.grind (arith, Self.row.coded.inj)) };
+    ghost blank = { refl };
 
-    ghost bounded = { first_of (Prim.search rules, Prim.grind (arith, Self.row.coded.inj)) };
+    ghost bounded = { word_bounded };
 
     fn zero() -> Word {
         word_with(0)
@@ -95,20 +95,11 @@ impl Kind for Pair {
 
     ghost sum_of = { pair_sum };
 
-    ghost restored = { unfold pair_of_bits in
-        λ c.
-        let low : to_bits binary32 c.first < 2 ^ 32 = to_bits-lt binary32 c.first c.low in
-        let high : to_bits binary32 c.second < 2 ^ 32 = to_bits-lt binary32 c.second c.high in
-        same_pair _ _
-        (ap (from_bits binary32) (omega arith) ∙ of_bits-to_bits binary32 c.first c.low)
-        (ap (from_bits binary32) (omega arith) ∙ of_bits-to_bits binary32 c.second c.high) };
+    ghost restored = { pair_restored };
 
-    ghost blank = { unfold to_bits from_bits pair_of_bits in refl };
+    ghost blank = { pair_blank };
 
-    ghost bounded = { λ c.
-        let low : to_bits binary32 c.first < 2 ^ 32 = to_bits-lt binary32 c.first c.low in
-        let high : to_bits binary32 c.second < 2 ^ 32 = to_bits-lt binary32 c.second c.high in
-        omega arith };
+    ghost bounded = { pair_bounded };
 
     fn zero() -> Pair {
         pair_of_bits(0, 0)

@@ -6,7 +6,7 @@ use super::{Kind, Slot};
 
 // The register at a position; zero with NaT clear where the slice is empty.
 pub fn register_at<K: Kind>(slots: &[Slot<K>], position: u64) -> Slot<K>
-    ensures { result ≡ register_at zero_content slots.now position }
+    ensures { result ≡ register_at K.zero_content slots.now position }
 {
     if slots.len() == 0 {
         return cleared();
@@ -17,15 +17,15 @@ pub fn register_at<K: Kind>(slots: &[Slot<K>], position: u64) -> Slot<K>
 // Puts a register at a position. An empty slice stays empty.
 pub fn put_register<K: Kind>(slots: &mut [Slot<K>], position: u64, register: Slot<K>)
     ensures exact { slots.new ≡ register_put slots.old position register }
-    ensures shows { PutShows zero_content slots.old position register slots.new }
+    ensures shows { PutShows K.zero_content slots.old position register slots.new }
 {
     put(slots, position, register);
 }
 
 // Clears the positions from `low` up to `high`, in order: zero, NaT clear.
 pub fn clear_registers<K: Kind>(slots: &mut [Slot<K>], low: u64, high: u64)
-    ensures exact { slots.new ≡ registers_cleared zero_content (high - low) low slots.old }
-    ensures shows { ClearShows zero_content slots.old (high - low) low slots.new }
+    ensures exact { slots.new ≡ registers_cleared K.zero_content (high - low) low slots.old }
+    ensures shows { ClearShows K.zero_content slots.old (high - low) low slots.new }
 {
     clear(slots, low, high);
 }
@@ -41,7 +41,7 @@ fn put<K: Kind>(slots: &mut [Slot<K>], position: u64, register: Slot<K>)
 }
 
 fn clear<K: Kind>(slots: &mut [Slot<K>], low: u64, high: u64)
-    ensures { slots.new ≡ registers_cleared zero_content (high - low) low slots.old }
+    ensures { slots.new ≡ registers_cleared K.zero_content (high - low) low slots.old }
 {
     for p in low..high {
         put(slots, p, cleared());
@@ -50,7 +50,7 @@ fn clear<K: Kind>(slots: &mut [Slot<K>], low: u64, high: u64)
 
 // The zero register, NaT clear.
 fn cleared<K: Kind>() -> Slot<K>
-    ensures { result ≡ cleared_slot zero_content }
+    ensures { result ≡ cleared_slot K.zero_content }
 {
     Slot {
         content: K::zero(),

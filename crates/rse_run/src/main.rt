@@ -1,5 +1,7 @@
 // rse-run: reads a session from standard input, runs it on 96 slots of the kind word over a paged store of 4,096 words,
 // and prints the answers (docs/RULES.md, "The runner").
+#![tactic(auto)]
+
 use anyhow::anyhow;
 use register::{Slot, Word};
 use std::alloc::AllocError;

@@ -1,5 +1,5 @@
 -- A paged store by its fields.
-use Rattle.std.specs.Prelude.{◌≡◌, ℕ, ◌*◌, ◌<◌, Bool, true, cond, List, length, replicate, Ok, Err, vec_items, vec_len, Result, slice_index, slice_index_or, slice_set}
+use Rattle.std.specs.Prelude.{◌≡◌, ℕ, ◌*◌, ◌<◌, true, cond, List, length, replicate, Ok, Err, vec_items, vec_len, Result, slice_index, slice_index_or, slice_set}
 use Rattle.store.specs.Meaning.{Meaning}
 use Rattle.store.specs.Frames.{paged_of, page_words, place_of}
 use Rattle.store.specs.Rules.{is_open, refusal_of}

@@ -1,4 +1,6 @@
 // Backing stores: what one means, the calls that each has, and two of them, flat and paged.
+#![tactic(auto)]
+
 ghost use Rattle.std.specs.Prelude.{◌≡◌, ◌/◌, ◌^◌, ◌<◌, length};
 ghost use Rattle.store.specs.Meaning.{Meaning};
 ghost use Rattle.store.specs.Rules.{is_open, read_of, write_of, written, door_of, door_set};

@@ -1,4 +1,6 @@
 // Examples of the kinds word and pair, and of a ring of each.
+#![tactic(auto)]
+
 #[cfg(test)]
 mod kinds;
 #[cfg(test)]

@@ -1,4 +1,6 @@
 // A third store, unlike those of the crate `store`: it owns its words, and keeps each as two halves of 32 bits. With examples of all three.
+#![tactic(auto)]
+
 ghost use Rattle.std.specs.Prelude.{◌≡◌, ◌+◌, if◌then◌else◌, Some, None, Ok, Err};
 ghost use Rattle.store.specs.Rules.{is_open, refusal_of, written};
 

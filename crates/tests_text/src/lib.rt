@@ -1,4 +1,6 @@
 // Examples of lines read, of inputs cut into lines, and of lines printed.
+#![tactic(auto)]
+
 #[cfg(test)]
 mod lines;
 #[cfg(test)]

@@ -70,11 +70,11 @@ fn execute<K: Kind, S: Store>(
     instruction: Instruction,
     line: u64,
 ) -> Result<Answer, RunFault>
-    ensures answer { result ≡ numbered (step_answer zero_content K.Kind.image_of K.Kind.content_of
-        (hosted engine.old.machine slots.old (S.Store.meaning store.old)) instruction) line }
-    ensures after { (hosted engine.new.machine slots.new (S.Store.meaning store.new))
-        ≡ step_after zero_content K.Kind.image_of K.Kind.content_of K.Kind.sum_of
-        (hosted engine.old.machine slots.old (S.Store.meaning store.old)) instruction }
+    ensures answer { result ≡ numbered (step_answer K.zero_content K.image_of K.content_of
+        (hosted engine.old.machine slots.old (S.meaning store.old)) instruction) line }
+    ensures after { (hosted engine.new.machine slots.new (S.meaning store.new))
+        ≡ step_after K.zero_content K.image_of K.content_of K.sum_of
+        (hosted engine.old.machine slots.old (S.meaning store.old)) instruction }
 {
     on_line(engine.step(slots, store, instruction), line)
 }
@@ -87,9 +87,9 @@ pub fn execute_line<K: Kind, S: Store>(
     text: &[u8],
     line: u64,
 ) -> Result<Answer, RunFault>
-    ensures { LineRuns zero_content K.Kind.image_of K.Kind.content_of K.Kind.sum_of
-        (hosted engine.old.machine slots.old (S.Store.meaning store.old))
-        text.now line result (hosted engine.new.machine slots.new (S.Store.meaning store.new)) }
+    ensures { LineRuns K.zero_content K.image_of K.content_of K.sum_of
+        (hosted engine.old.machine slots.old (S.meaning store.old))
+        text.now line result (hosted engine.new.machine slots.new (S.meaning store.new)) }
 {
     let instruction = on_line(read_line(text).ok_or(Refusal::Unreadable), line)?;
     let answer = execute(engine, slots, store, instruction, line)?;
@@ -114,9 +114,9 @@ fn execute_lines<K: Kind, S: Store>(
     store: &mut S,
     input: &[u8],
 ) -> Result<Vec<Outcome>, AllocError>
-    ensures { IfOk result (λ v. Runs zero_content K.Kind.image_of K.Kind.content_of K.Kind.sum_of
-        (hosted engine.old.machine slots.old (S.Store.meaning store.old)) (lines_of input.now) 1 v.items
-        (hosted engine.new.machine slots.new (S.Store.meaning store.new))) }
+    ensures { IfOk result (λ v. Runs K.zero_content K.image_of K.content_of K.sum_of
+        (hosted engine.old.machine slots.old (S.meaning store.old)) (lines_of input.now) 1 v.items
+        (hosted engine.new.machine slots.new (S.meaning store.new))) }
 {
     let mut outcomes = Vec::with_capacity(heap, lines_at_most(input))?;
     let mut number: u64 = 0;
@@ -203,8 +203,8 @@ pub fn run_outcomes<K: Kind, S: Store>(
     store: &mut S,
     input: &[u8],
 ) -> Result<Vec<Outcome>, SessionError>
-    ensures { IfOk result (λ v. SessionRuns zero_content K.Kind.image_of K.Kind.content_of K.Kind.sum_of
-        slots.old (S.Store.meaning store.old) input.now v.items slots.new (S.Store.meaning store.new)) }
+    ensures { IfOk result (λ v. SessionRuns K.zero_content K.image_of K.content_of K.sum_of
+        slots.old (S.meaning store.old) input.now v.items slots.new (S.meaning store.new)) }
 {
     let mut engine = Engine::new(slots.len() as u64, store.len())?;
     let outcomes = execute_lines(heap, &mut engine, slots, store, input)?;
@@ -218,8 +218,8 @@ pub fn run_session<K: Kind, S: Store>(
     store: &mut S,
     input: &[u8],
 ) -> Result<Vec<u8>, SessionError>
-    ensures { IfOk result (λ v. SessionPrints zero_content K.Kind.image_of K.Kind.content_of K.Kind.sum_of
-        slots.old (S.Store.meaning store.old) input.now v.items slots.new (S.Store.meaning store.new)) }
+    ensures { IfOk result (λ v. SessionPrints K.zero_content K.image_of K.content_of K.sum_of
+        slots.old (S.meaning store.old) input.now v.items slots.new (S.meaning store.new)) }
 {
     let room = lines_at_most(input)
         .saturating_add(1)

@@ -15,12 +15,12 @@ loop-position-preserved g c =
     let slots = c.loop-position.slots in
     let q = c.loop-position.position in
     let lt : q < c.args.high = omega arith in
-    let o : fill_open at m q ≡ true = granted_open _ _ (sym c.in-ok-fill.was ∙ c.fill.ensures.answer) in
+    let o : fill_open at m q ≡ true = granted_open _ _ (sym c.in_ok-fill.was ∙ c.fill.ensures.answer) in
     fill_more content m c.args.context c.args.high q at c.fill.new.at slots c.fill.new.slots lt o c.fill.ensures.cursor c.fill.ensures.file
     ∙ c.loop-position.invariant
 
-pub returns-in-err-fill : goal.returns-in-err-fill
-returns-in-err-fill g c =
+pub returns-in_err-fill : goal.returns-in_err-fill
+returns-in_err-fill g c =
     let content = g.K.Kind.content_of in
     let m = g.S.Store.meaning c.args.store.now in
     let first = c.args.at.now in
@@ -31,9 +31,9 @@ returns-in-err-fill g c =
     let q = c.loop-position.position in
     let lt : q < c.args.high = omega arith in
     let p = err_from_is_err_and c.from-residual.result c.from-residual.ensures.1 in
-    let o : fill_open at m q ≡ false = refused_shut _ _ _ (sym c.in-err-fill.was ∙ c.fill.ensures.answer) in
+    let o : fill_open at m q ≡ false = refused_shut _ _ _ (sym c.in_err-fill.was ∙ c.fill.ensures.answer) in
     let whole = sym (fill_stop content m c.args.context c.args.high q at slots lt o) ∙ c.loop-position.invariant in
-    let answer : c.from-residual.result ≡ run.answer = rw (p.1, p.2) (sym c.in-err-fill.was ∙ c.fill.ensures.answer ∙ ap (λ e. e.answer) whole) in
+    let answer : c.from-residual.result ≡ run.answer = rw (p.1, p.2) (sym c.in_err-fill.was ∙ c.fill.ensures.answer ∙ ap (λ e. e.answer) whole) in
     let file : c.fill.new.slots ≡ run.file = c.fill.ensures.file ∙ ap (λ b. cond b (register_put slots q (filled content at m q)) slots) o ∙ ap (λ e. e.file) whole in
     let cursor : c.fill.new.at ≡ run.cursor = c.fill.ensures.cursor ∙ ap (λ b. cond b (read_more (fill_reads at q) at) at) o ∙ ap (λ e. e.cursor) whole in
     record {

@@ -14,13 +14,13 @@ loop-word-preserved g c =
     let m = g.S.Store.meaning c.loop-word.store in
     let at = c.loop-word.at in
     let lt : c.loop-word.-word < c.args.end = omega arith in
-    let o : is_open m at.bspstore ≡ true = granted_open _ _ (sym c.in-ok-spill-step.was ∙ c.spill-step.ensures.answer) in
+    let o : is_open m at.bspstore ≡ true = granted_open _ _ (sym c.in_ok-spill-step.was ∙ c.spill-step.ensures.answer) in
     spill_more nought image slots c.args.context c.args.end c.loop-word.-word at c.spill-step.new.at m (g.S.Store.meaning c.spill-step.new.store) lt o
     c.spill-step.ensures.cursor c.spill-step.ensures.words
     ∙ c.loop-word.invariant
 
-pub returns-in-err-spill-step : goal.returns-in-err-spill-step
-returns-in-err-spill-step g c =
+pub returns-in_err-spill-step : goal.returns-in_err-spill-step
+returns-in_err-spill-step g c =
     let nought = g.K.Kind.zero_content in
     let image = g.K.Kind.image_of in
     let slots = c.args.slots.now in
@@ -31,9 +31,9 @@ returns-in-err-spill-step g c =
     let at = c.loop-word.at in
     let lt : c.loop-word.-word < c.args.end = omega arith in
     let p = err_from_is_err_and c.from-residual.result c.from-residual.ensures.1 in
-    let o : is_open m at.bspstore ≡ false = refused_shut _ _ _ (sym c.in-err-spill-step.was ∙ c.spill-step.ensures.answer) in
+    let o : is_open m at.bspstore ≡ false = refused_shut _ _ _ (sym c.in_err-spill-step.was ∙ c.spill-step.ensures.answer) in
     let whole = sym (spill_stop nought image slots c.args.context c.args.end c.loop-word.-word at m lt o) ∙ c.loop-word.invariant in
-    let answer : c.from-residual.result ≡ run.answer = rw (p.1, p.2) (sym c.in-err-spill-step.was ∙ c.spill-step.ensures.answer ∙ ap (λ e. e.answer) whole) in
+    let answer : c.from-residual.result ≡ run.answer = rw (p.1, p.2) (sym c.in_err-spill-step.was ∙ c.spill-step.ensures.answer ∙ ap (λ e. e.answer) whole) in
     let words : g.S.Store.meaning c.spill-step.new.store ≡ run.meaning = c.spill-step.ensures.words ∙ unwritten m at.bspstore (spill_value nought image slots at) o
     ∙ ap (λ e. e.meaning) whole in
     let cursor : c.spill-step.new.at ≡ run.cursor = c.spill-step.ensures.cursor ∙ ap (λ b. cond b (spill_past nought slots at) at) o ∙ ap (λ e. e.cursor) whole in

@@ -5,5 +5,5 @@ use Rattle.text.proofs.reading.after_three.Goals as goal
 pub returns-in-empty : goal.returns-in-empty
 returns-in-empty c = listed_end (c.args.a ∷ c.args.b ∷ c.args.c ∷ []) c.args.text.now (search rules) (search rules)
 
-pub returns-in-default : goal.returns-in-default
-returns-in-default c = listed_full c.args.a c.args.b c.args.c c.args.text.now (search rules)
+pub returns-in_default : goal.returns-in_default
+returns-in_default c = listed_full c.args.a c.args.b c.args.c c.args.text.now (search rules)

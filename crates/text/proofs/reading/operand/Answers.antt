@@ -4,12 +4,12 @@ use Rattle.std.specs.List.{between}
 use Rattle.text.proofs.Operands.{no_operand, operand_is}
 use Rattle.text.proofs.reading.operand.Goals as goal
 
-pub returns-in-err-digits : goal.returns-in-err-digits
-returns-in-err-digits c = rw c.from-residual.ensures (no_operand c.args.text.now c.in-err-digits.ensures)
+pub returns-in_err-digits : goal.returns-in_err-digits
+returns-in_err-digits c = rw c.from-residual.ensures (no_operand c.args.text.now c.in_err-digits.ensures)
 
 pub returns : goal.returns
 returns c =
     let s = c.args.text.now in
-    let h = c.in-ok-digits.ensures in
-    let d = c.in-ok-digits.digits.now in
+    let h = c.in_ok-digits.ensures in
+    let d = c.in_ok-digits.digits.now in
     operand_is s d c.number.result (first_rest s 0 h.0 ∙ ap (λ b. b ∷ between 1 (length s) s) h.1 ∙ ap (λ t. 32 ∷ t) (sym h.2)) c.number.ensures

@@ -5,15 +5,15 @@ use Rattle.text.specs.Spelling.{listed}
 use Rattle.text.proofs.Spelled.{apart, read_as, unreadable}
 use Rattle.text.proofs.reading.read_line.Goals as goal
 
-pub returns-in-default : goal.returns-in-default
-returns-in-default c = record { spelled = λ i p k. omega (arith, ltb-true, ltb-false, ap length k); apart = apart }
+pub returns-in_default : goal.returns-in_default
+returns-in_default c = record { spelled = λ i p k. omega (arith, ltb-true, ltb-false, ap length k); apart = apart }
 
-pub returns-in-err-read-operands : goal.returns-in-err-read-operands
-returns-in-err-read-operands c =
+pub returns-in_err-read-operands : goal.returns-in_err-read-operands
+returns-in_err-read-operands c =
     let s = c.args.line.now in
     let d = between 1 (length s) s in
     let first : s ≡ get_or s 0 0 ∷ d = first_rest s 0 (omega (arith, ltb-true, ltb-false)) in
-    let none = unreadable s d (get_or s 0 0) first c.in-err-read-operands.ensures in
+    let none = unreadable s d (get_or s 0 0) first c.in_err-read-operands.ensures in
     rw c.from-residual.ensures (record { spelled = none; apart = apart })
 
 pub returns : goal.returns
@@ -21,6 +21,6 @@ returns c =
     let s = c.args.line.now in
     let d = between 1 (length s) s in
     let first : s ≡ get_or s 0 0 ∷ d = first_rest s 0 (omega (arith, ltb-true, ltb-false)) in
-    let o = c.in-ok-read-operands.ensures in
-    let ns = listed c.in-ok-read-operands.field-0 in
+    let o = c.in_ok-read-operands.ensures in
+    let ns = listed c.in_ok-read-operands.field-0 in
     record { spelled = read_as s d ns (get_or s 0 0) c.instruction.result first o.0 o.1 c.instruction.ensures; apart = apart }

@@ -19,7 +19,7 @@ loop-outcome-preserved c =
     let one : c.count-granted.result ≡ cond b 1 0 = c.count-granted.ensures ∙ ap (λ x. cond x 1 0) c.is-granted.ensures in
     let none : c.count-refused.result ≡ cond b 0 1 = c.count-refused.ensures ∙ ap (λ x. cond (not x) 1 0) c.is-granted-in-loop-outcome.ensures ∙ flipped b in
     let few = at_most_one b in
-    let went = c.push-outcome.ensures.items (ap is_ok c.in-ok-push-outcome.was) in (
+    let went = c.push-outcome.ensures.items (ap is_ok c.in_ok-push-outcome.was) in (
       printed_more os i d lt (vec_items c.loop-outcome.out) (vec_items c.push-outcome.new.out) _ went inv.0,
       granted_more os i d lt c.loop-outcome.granted c.count-granted.result (granted_in os) one inv.1,
       refused_more os i d lt c.loop-outcome.refused c.count-refused.result (refused_in os) none inv.2,

@@ -5,8 +5,8 @@ use Rattle.context.specs.Scenes.{seen}
 use Rattle.context.proofs.Moves.{frame_size}
 use Rattle.context.proofs.sound.Context.go_back.Goals as goal
 
-pub invariant-of-self : goal.invariant-of-self
-invariant-of-self g c =
+pub invariant_of-self : goal.invariant_of-self
+invariant_of-self g c =
     let s = seen c.args.self.now c.args.slots.now (g.S.Store.meaning c.args.store.now) in
     let new = c.move-frame.new.self in
     let size : new.stack.size ≡ c.args.self.now.stack.size = ap (λ x. x.stack.size) c.move-frame.ensures.after ∙ frame_size g.K.Kind.zero_content g.K.Kind.image_of g.K.Kind.content_of s c.args.base _ in

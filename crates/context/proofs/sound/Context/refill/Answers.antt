@@ -7,17 +7,17 @@ use Rattle.moves.specs.Steps.{MoveResult}
 use Rattle.context.proofs.Refills.{refill_answer_lem, refill_after_lem}
 use Rattle.context.proofs.sound.Context.refill.Goals as goal
 
-pub returns-in-err-ask-refill : goal.returns-in-err-ask-refill
+pub returns-in_err-ask-refill : goal.returns-in_err-ask-refill
 unfolding refill_answer refill_after
-returns-in-err-ask-refill g c = search rules
+returns-in_err-ask-refill g c = search rules
 
-pub returns-in-err-fill-run : goal.returns-in-err-fill-run
+pub returns-in_err-fill-run : goal.returns-in_err-fill-run
 unfolding refill_answer refill_after
-returns-in-err-fill-run g c = search rules
+returns-in_err-fill-run g c = search rules
 
-pub returns-in-err-lower : goal.returns-in-err-lower
+pub returns-in_err-lower : goal.returns-in_err-lower
 unfolding refill_answer refill_after
-returns-in-err-lower g c = search rules
+returns-in_err-lower g c = search rules
 
 pub returns : goal.returns
 returns g c =

@@ -7,8 +7,8 @@ use Rattle.engine.specs.Rules.{is_parked_entry}
 use Rattle.engine.proofs.Entries.{empties}
 use Rattle.engine.proofs.sound.Engine.new.Goals as goal
 
-pub invariant-of-result : goal.invariant-of-result
-invariant-of-result c = (
+pub invariant_of-result : goal.invariant_of-result
+invariant_of-result c = (
   refl,
   (
     omega arith,

@@ -10,8 +10,8 @@ use Rattle.engine.specs.Invariants.{is_current_entry, Fits}
 use Rattle.engine.proofs.Entries.{put_in, put_one}
 use Rattle.engine.proofs.sound.Engine.replace.Goals as goal
 
-pub invariant-of-self : goal.invariant-of-self
-invariant-of-self c =
+pub invariant_of-self : goal.invariant_of-self
+invariant_of-self c =
     let engine = c.args.self.now in
     let xs = engine.machine.table.entries in
     let at = c.args.k in

@@ -1,4 +1,4 @@
-use Rattle.std.proofs.Common.{◌≡◌, ◌*◌, length, vec_items, arith}
+use Rattle.std.proofs.Common.{vec_items, arith}
 use Rattle.store.specs.Paging.{length-page_words}
 use Rattle.store.proofs.paged.PagedStore.pages.Goals as goal
 

@@ -2,8 +2,8 @@ use Rattle.std.proofs.Common.{◌+◌, ◌*◌, ◌%◌, ◌<◌, length, get_or
 use Rattle.store.proofs.Places.{frame_low, get_or-page_words, place_within}
 use Rattle.store.proofs.paged.PagedStore.place.Goals as goal
 
-pub overflow-mul-result : goal.overflow-mul-result
-overflow-mul-result c =
+pub overflow_mul-result : goal.overflow_mul-result
+overflow_mul-result c =
     let s = c.args.self.now in
     let frame =
     frame_low (vec_items s.frames) (vec_len s.frames) c.args.w c.index.result.now
@@ -11,8 +11,8 @@ overflow-mul-result c =
     in
     omega (arith, frame.1)
 
-pub overflow-add-result : goal.overflow-add-result
-overflow-add-result c =
+pub overflow_add-result : goal.overflow_add-result
+overflow_add-result c =
     let s = c.args.self.now in
     let frame =
     frame_low (vec_items s.frames) (vec_len s.frames) c.args.w c.index.result.now

@@ -1,4 +1,4 @@
-use Rattle.std.proofs.Common.{◌≡◌, ◌*◌, ◌<◌, length, set, vec_items, sym, refl, ap, ◌∙◌, subst, arith}
+use Rattle.std.proofs.Common.{◌*◌, ◌<◌, length, set, vec_items, refl, ap, ◌∙◌, arith}
 use Rattle.store.specs.Frames.{page_words, place_of}
 use Rattle.store.proofs.Places.{page_words_set}
 use Rattle.store.proofs.paged.PagedStore.put.Goals as goal
