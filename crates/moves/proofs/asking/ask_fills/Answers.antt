@@ -12,19 +12,19 @@ loop-position-preserved g c =
     let at = c.args.at.now in
     let q = c.loop-position.position in
     let lt : q < c.args.high = omega arith in
-    let o : fill_open at m q ≡ true = granted_open _ _ (sym c.in_ok-ask-fill.was ∙ c.ask-fill.ensures) in
+    let o : fill_open at m q ≡ true = granted_open _ _ (sym c.in_ok-ask_fill.was ∙ c.ask_fill.ensures) in
     asks_more m c.args.context at c.args.high q lt o ∙ c.loop-position.invariant
 
-pub returns-in_err-ask-fill : goal.returns-in_err-ask-fill
-returns-in_err-ask-fill g c =
+pub returns-in_err-ask_fill : goal.returns-in_err-ask_fill
+returns-in_err-ask_fill g c =
     let m = g.S.Store.meaning c.args.store.now in
     let at = c.args.at.now in
     let q = c.loop-position.position in
     let lt : q < c.args.high = omega arith in
-    let p = err_from_is_err_and c.from-residual.result c.from-residual.ensures.1 in
-    let o : fill_open at m q ≡ false = refused_shut _ _ _ (sym c.in_err-ask-fill.was ∙ c.ask-fill.ensures) in
-    let answer : c.from-residual.result ≡ fills_asked m c.args.context at (c.args.high - c.args.low) c.args.low = rw (p.1, p.2)
-    (sym c.in_err-ask-fill.was ∙ c.ask-fill.ensures ∙ sym (asks_stop m c.args.context at c.args.high q lt o) ∙ c.loop-position.invariant) in
+    let p = err_from_is_err_and c.from_residual.result c.from_residual.ensures.1 in
+    let o : fill_open at m q ≡ false = refused_shut _ _ _ (sym c.in_err-ask_fill.was ∙ c.ask_fill.ensures) in
+    let answer : c.from_residual.result ≡ fills_asked m c.args.context at (c.args.high - c.args.low) c.args.low = rw (p.1, p.2)
+    (sym c.in_err-ask_fill.was ∙ c.ask_fill.ensures ∙ sym (asks_stop m c.args.context at c.args.high q lt o) ∙ c.loop-position.invariant) in
     let told = subst (Fills m c.args.context at c.args.low c.args.high) (sym answer)
     (fills_told m c.args.context at (c.args.high - c.args.low) c.args.low c.args.high refl) in
     record { answer = answer; told = told.0; lowest = told.1 }

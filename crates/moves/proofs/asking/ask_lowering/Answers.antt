@@ -8,7 +8,7 @@ pub returns : goal.returns
 returns g c =
     let m = g.S.Store.meaning c.args.store.now in
     let at = c.args.at.now in
-    let answer = c.ask-lower.ensures in
+    let answer = c.ask_lower.ensures in
     record {
       answer = answer;
       told = subst (Told m Lowering c.args.context (LowerNeeds at c.args.word)) (sym answer) (lower_told m c.args.context at c.args.word);

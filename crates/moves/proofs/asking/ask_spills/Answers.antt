@@ -23,10 +23,10 @@ returns-in_err-ask g c =
     let at = c.args.at.now in
     let w = c.loop-word.word in
     let lt : w < c.args.end = omega arith in
-    let p = err_from_is_err_and c.from-residual.result c.from-residual.ensures.1 in
+    let p = err_from_is_err_and c.from_residual.result c.from_residual.ensures.1 in
     let o : is_open m w ≡ false = refused_shut _ _ _ (sym c.in_err-ask.was ∙ c.ask.ensures) in
-    let answer : c.from-residual.result ≡ spills_asked m c.args.context at.start (c.args.end - at.bspstore) at.bspstore = rw (p.1, p.2)
-    (sym c.in_err-ask.was ∙ c.ask.ensures ∙ ap (ask_of m w Spill c.args.context) c.positions-below-position.ensures
+    let answer : c.from_residual.result ≡ spills_asked m c.args.context at.start (c.args.end - at.bspstore) at.bspstore = rw (p.1, p.2)
+    (sym c.in_err-ask.was ∙ c.ask.ensures ∙ ap (ask_of m w Spill c.args.context) c.positions_below-position.ensures
     ∙ sym (ask_stop m c.args.context at.start c.args.end w lt o) ∙ c.loop-word.invariant) in
     let told = subst (Spills m c.args.context at.start at.bspstore c.args.end) (sym answer)
     (spills_told m c.args.context at.start (c.args.end - at.bspstore) at.bspstore c.args.end refl) in

@@ -30,10 +30,10 @@ returns-in_err-fill g c =
     let slots = c.loop-position.slots in
     let q = c.loop-position.position in
     let lt : q < c.args.high = omega arith in
-    let p = err_from_is_err_and c.from-residual.result c.from-residual.ensures.1 in
+    let p = err_from_is_err_and c.from_residual.result c.from_residual.ensures.1 in
     let o : fill_open at m q ≡ false = refused_shut _ _ _ (sym c.in_err-fill.was ∙ c.fill.ensures.answer) in
     let whole = sym (fill_stop content m c.args.context c.args.high q at slots lt o) ∙ c.loop-position.invariant in
-    let answer : c.from-residual.result ≡ run.answer = rw (p.1, p.2) (sym c.in_err-fill.was ∙ c.fill.ensures.answer ∙ ap (λ e. e.answer) whole) in
+    let answer : c.from_residual.result ≡ run.answer = rw (p.1, p.2) (sym c.in_err-fill.was ∙ c.fill.ensures.answer ∙ ap (λ e. e.answer) whole) in
     let file : c.fill.new.slots ≡ run.file = c.fill.ensures.file ∙ ap (λ b. cond b (register_put slots q (filled content at m q)) slots) o ∙ ap (λ e. e.file) whole in
     let cursor : c.fill.new.at ≡ run.cursor = c.fill.ensures.cursor ∙ ap (λ b. cond b (read_more (fill_reads at q) at) at) o ∙ ap (λ e. e.cursor) whole in
     record {
@@ -41,7 +41,7 @@ returns-in_err-fill g c =
       file = file;
       cursor = cursor;
       closed = fill_shows g.K.Kind.zero_content content m c.args.context c.args.low c.args.high first c.fill.new.at ring c.fill.new.slots
-          c.from-residual.result answer file cursor;
+          c.from_residual.result answer file cursor;
     }
 
 pub returns : goal.returns

@@ -13,14 +13,14 @@ loop-word-preserved g c =
     let slots = c.args.slots.now in
     let m = g.S.Store.meaning c.loop-word.store in
     let at = c.loop-word.at in
-    let lt : c.loop-word.-word < c.args.end = omega arith in
-    let o : is_open m at.bspstore ≡ true = granted_open _ _ (sym c.in_ok-spill-step.was ∙ c.spill-step.ensures.answer) in
-    spill_more nought image slots c.args.context c.args.end c.loop-word.-word at c.spill-step.new.at m (g.S.Store.meaning c.spill-step.new.store) lt o
-    c.spill-step.ensures.cursor c.spill-step.ensures.words
+    let lt : c.loop-word._word < c.args.end = omega arith in
+    let o : is_open m at.bspstore ≡ true = granted_open _ _ (sym c.in_ok-spill_step.was ∙ c.spill_step.ensures.answer) in
+    spill_more nought image slots c.args.context c.args.end c.loop-word._word at c.spill_step.new.at m (g.S.Store.meaning c.spill_step.new.store) lt o
+    c.spill_step.ensures.cursor c.spill_step.ensures.words
     ∙ c.loop-word.invariant
 
-pub returns-in_err-spill-step : goal.returns-in_err-spill-step
-returns-in_err-spill-step g c =
+pub returns-in_err-spill_step : goal.returns-in_err-spill_step
+returns-in_err-spill_step g c =
     let nought = g.K.Kind.zero_content in
     let image = g.K.Kind.image_of in
     let slots = c.args.slots.now in
@@ -29,20 +29,20 @@ returns-in_err-spill-step g c =
     let run = spill_run nought image slots c.args.context (c.args.end - first.bspstore) first store in
     let m = g.S.Store.meaning c.loop-word.store in
     let at = c.loop-word.at in
-    let lt : c.loop-word.-word < c.args.end = omega arith in
-    let p = err_from_is_err_and c.from-residual.result c.from-residual.ensures.1 in
-    let o : is_open m at.bspstore ≡ false = refused_shut _ _ _ (sym c.in_err-spill-step.was ∙ c.spill-step.ensures.answer) in
-    let whole = sym (spill_stop nought image slots c.args.context c.args.end c.loop-word.-word at m lt o) ∙ c.loop-word.invariant in
-    let answer : c.from-residual.result ≡ run.answer = rw (p.1, p.2) (sym c.in_err-spill-step.was ∙ c.spill-step.ensures.answer ∙ ap (λ e. e.answer) whole) in
-    let words : g.S.Store.meaning c.spill-step.new.store ≡ run.meaning = c.spill-step.ensures.words ∙ unwritten m at.bspstore (spill_value nought image slots at) o
+    let lt : c.loop-word._word < c.args.end = omega arith in
+    let p = err_from_is_err_and c.from_residual.result c.from_residual.ensures.1 in
+    let o : is_open m at.bspstore ≡ false = refused_shut _ _ _ (sym c.in_err-spill_step.was ∙ c.spill_step.ensures.answer) in
+    let whole = sym (spill_stop nought image slots c.args.context c.args.end c.loop-word._word at m lt o) ∙ c.loop-word.invariant in
+    let answer : c.from_residual.result ≡ run.answer = rw (p.1, p.2) (sym c.in_err-spill_step.was ∙ c.spill_step.ensures.answer ∙ ap (λ e. e.answer) whole) in
+    let words : g.S.Store.meaning c.spill_step.new.store ≡ run.meaning = c.spill_step.ensures.words ∙ unwritten m at.bspstore (spill_value nought image slots at) o
     ∙ ap (λ e. e.meaning) whole in
-    let cursor : c.spill-step.new.at ≡ run.cursor = c.spill-step.ensures.cursor ∙ ap (λ b. cond b (spill_past nought slots at) at) o ∙ ap (λ e. e.cursor) whole in
+    let cursor : c.spill_step.new.at ≡ run.cursor = c.spill_step.ensures.cursor ∙ ap (λ b. cond b (spill_past nought slots at) at) o ∙ ap (λ e. e.cursor) whole in
     record {
       answer = answer;
       words = words;
       cursor = cursor;
-      closed = spill_shows nought image slots c.args.context c.args.end first c.spill-step.new.at store (g.S.Store.meaning c.spill-step.new.store)
-          c.from-residual.result answer words cursor;
+      closed = spill_shows nought image slots c.args.context c.args.end first c.spill_step.new.at store (g.S.Store.meaning c.spill_step.new.store)
+          c.from_residual.result answer words cursor;
     }
 
 pub returns : goal.returns
@@ -54,7 +54,7 @@ returns g c =
     let store = g.S.Store.meaning c.args.store.now in
     let m = g.S.Store.meaning c.loop-word.store in
     let at = c.loop-word.at in
-    let e : 0 ≡ c.args.end - c.loop-word.-word = omega arith in
+    let e : 0 ≡ c.args.end - c.loop-word._word = omega arith in
     let whole = ap (λ n. spill_run nought image slots c.args.context n at m) e ∙ c.loop-word.invariant in
     let answer = ap (λ e. e.answer) whole in
     let words = ap (λ e. e.meaning) whole in

@@ -5,4 +5,4 @@ use Rattle.text.proofs.printing.push_value.Goals as goal
 
 pub returns : goal.returns
 returns c =
-    appends_as (ap (λ ds. 32 ∷ ds) (sym (append-nil (decimal c.args.n)))) (appends_then c.push-byte.ensures (ap is_ok c.in_ok-push-byte.was) c.push-number.ensures)
+    appends_as (ap (λ ds. 32 ∷ ds) (sym (append-nil (decimal c.args.n)))) (appends_then c.push_byte.ensures (ap is_ok c.in_ok-push_byte.was) c.push_number.ensures)

@@ -5,7 +5,7 @@ use Rattle.text.proofs.Operands.{no_operand, operand_is}
 use Rattle.text.proofs.reading.operand.Goals as goal
 
 pub returns-in_err-digits : goal.returns-in_err-digits
-returns-in_err-digits c = rw c.from-residual.ensures (no_operand c.args.text.now c.in_err-digits.ensures)
+returns-in_err-digits c = rw c.from_residual.ensures (no_operand c.args.text.now c.in_err-digits.ensures)
 
 pub returns : goal.returns
 returns c =

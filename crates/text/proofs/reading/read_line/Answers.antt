@@ -8,19 +8,19 @@ use Rattle.text.proofs.reading.read_line.Goals as goal
 pub returns-in_default : goal.returns-in_default
 returns-in_default c = record { spelled = λ i p k. omega (arith, ltb-true, ltb-false, ap length k); apart = apart }
 
-pub returns-in_err-read-operands : goal.returns-in_err-read-operands
-returns-in_err-read-operands c =
+pub returns-in_err-read_operands : goal.returns-in_err-read_operands
+returns-in_err-read_operands c =
     let s = c.args.line.now in
     let d = between 1 (length s) s in
     let first : s ≡ get_or s 0 0 ∷ d = first_rest s 0 (omega (arith, ltb-true, ltb-false)) in
-    let none = unreadable s d (get_or s 0 0) first c.in_err-read-operands.ensures in
-    rw c.from-residual.ensures (record { spelled = none; apart = apart })
+    let none = unreadable s d (get_or s 0 0) first c.in_err-read_operands.ensures in
+    rw c.from_residual.ensures (record { spelled = none; apart = apart })
 
 pub returns : goal.returns
 returns c =
     let s = c.args.line.now in
     let d = between 1 (length s) s in
     let first : s ≡ get_or s 0 0 ∷ d = first_rest s 0 (omega (arith, ltb-true, ltb-false)) in
-    let o = c.in_ok-read-operands.ensures in
-    let ns = listed c.in_ok-read-operands.field-0 in
+    let o = c.in_ok-read_operands.ensures in
+    let ns = listed c.in_ok-read_operands.field-0 in
     record { spelled = read_as s d ns (get_or s 0 0) c.instruction.result first o.0 o.1 c.instruction.ensures; apart = apart }

@@ -7,13 +7,13 @@ use Rattle.moves.specs.Steps.{MoveResult}
 use Rattle.context.proofs.Refills.{refill_answer_lem, refill_after_lem}
 use Rattle.context.proofs.sound.Context.refill.Goals as goal
 
-pub returns-in_err-ask-refill : goal.returns-in_err-ask-refill
+pub returns-in_err-ask_refill : goal.returns-in_err-ask_refill
 unfolding refill_answer refill_after
-returns-in_err-ask-refill g c = search rules
+returns-in_err-ask_refill g c = search rules
 
-pub returns-in_err-fill-run : goal.returns-in_err-fill-run
+pub returns-in_err-fill_run : goal.returns-in_err-fill_run
 unfolding refill_answer refill_after
-returns-in_err-fill-run g c = search rules
+returns-in_err-fill_run g c = search rules
 
 pub returns-in_err-lower : goal.returns-in_err-lower
 unfolding refill_answer refill_after
@@ -29,10 +29,10 @@ returns g c =
     let word = c.args.word in
     let asked : ◌≡◌ {A = MoveResult} (refill_asked s low high word) (Ok tt) = search rules in
     let fills : ◌≡◌ {A = MoveResult} (fills_to content s low high).answer (Ok tt) = search rules in
-    let at : c.fill-run.new.at ≡ (fills_to content s low high).cursor = search rules in
-    let went : ◌≡◌ {A = MoveResult} (lower_answer m s.number c.fill-run.new.at word) (Ok tt) = search rules in
-    let file : c.fill-run.new.slots ≡ (fills_to content s low high).file = search rules in
+    let at : c.fill_run.new.at ≡ (fills_to content s low high).cursor = search rules in
+    let went : ◌≡◌ {A = MoveResult} (lower_answer m s.number c.fill_run.new.at word) (Ok tt) = search rules in
+    let file : c.fill_run.new.slots ≡ (fills_to content s low high).file = search rules in
     record {
-      answer = refill_answer_lem content s low high word (Ok tt) c.fill-run.new.at asked fills at went;
-      after = refill_after_lem content s low high word c.fill-run.new.at c.lower.new.at c.settle.new.self.stack c.settle.new.self.counts c.settle.new.self.number c.fill-run.new.slots asked fills at went c.lower.ensures.cursor c.settle.ensures.stack c.settle.ensures.counts c.settle.ensures.number file;
+      answer = refill_answer_lem content s low high word (Ok tt) c.fill_run.new.at asked fills at went;
+      after = refill_after_lem content s low high word c.fill_run.new.at c.lower.new.at c.settle.new.self.stack c.settle.new.self.counts c.settle.new.self.number c.fill_run.new.slots asked fills at went c.lower.ensures.cursor c.settle.ensures.stack c.settle.ensures.counts c.settle.ensures.number file;
     }

@@ -21,7 +21,7 @@ put-requires g c =
     let s = seen c.context-context.result c.args.slots.now (g.S.Store.meaning c.args.store.now) in
     let start : Sound (length c.args.slots.now) s.stack = subst (λ n. Sound n s.stack) (sym len) (subst (λ x. Sound m.slots x) (sym from) (sound_at e m.current)) in
     let left = (early_fill_after content s).stack in
-    let after : c.early-fill-filled.new.self.stack ≡ left = ap (λ x. x.stack) c.early-fill-filled.ensures.after in
+    let after : c.early_fill-filled.new.self.stack ≡ left = ap (λ x. x.stack) c.early_fill-filled.ensures.after in
     let status = early_fill_status content s ∙ ap (λ x. x.status) from in
     subst (λ x. Fits m x) (sym after)
     (fits_in m left (recount left len (early_fill_sound content s start)) (subst (λ x. is_current_entry x ≡ true) (sym status) (e.awake c.requires.driven))

@@ -20,7 +20,7 @@ put-requires g c =
     let s = seen c.context-context.result c.args.slots.now (g.S.Store.meaning c.args.store.now) in
     let start : Sound m.slots s.stack = subst (λ x. Sound m.slots x) (sym from) (sound_at e m.current) in
     let left = (early_spill_after nought image s).stack in
-    let after : c.early-spill-spilled.new.self.stack ≡ left = ap (λ x. x.stack) c.early-spill-spilled.ensures.after in
+    let after : c.early_spill-spilled.new.self.stack ≡ left = ap (λ x. x.stack) c.early_spill-spilled.ensures.after in
     let status = early_spill_status nought image s ∙ ap (λ x. x.status) from in
     subst (λ x. Fits m x) (sym after)
     (fits_in m _ (early_spill_sound nought image s m.slots start) (subst (λ x. is_current_entry x ≡ true) (sym status) (e.awake c.requires.driven))

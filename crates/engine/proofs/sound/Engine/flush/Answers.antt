@@ -31,7 +31,7 @@ leave-requires g c =
     let fits : Fits (in_state m (after_flush m.state)) left = fits_in (in_state m (after_flush m.state)) _ sound current
     (λ t. let closed = subst Closed (sym from) (closed_in e (flush_closes m.state t)) in record { empty = closed.empty; below = closed.below })
     (λ t. flushed_stored nought image s m.slots start went) in
-    subst (λ st. Fits (in_state m st) c.flush.new.self.stack) (sym c.after-flush.ensures) (subst (λ x. Fits (in_state m (after_flush m.state)) x) (sym after) fits)
+    subst (λ st. Fits (in_state m st) c.flush.new.self.stack) (sym c.after_flush.ensures) (subst (λ x. Fits (in_state m (after_flush m.state)) x) (sym after) fits)
 
 pub put-requires : goal.put-requires
 put-requires g c =

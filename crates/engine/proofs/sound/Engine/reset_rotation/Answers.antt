@@ -15,5 +15,5 @@ put-requires c =
     let m = e.machine in
     let r = driven_in e in
     let from : c.context-context.result.stack ≡ r = c.context-context.ensures.stack in
-    let after : c.reset-rotation.new.self.stack ≡ reset_frame r = c.reset-rotation.ensures.stack ∙ ap (λ r. reset_frame r) from in
+    let after : c.reset_rotation.new.self.stack ≡ reset_frame r = c.reset_rotation.ensures.stack ∙ ap (λ r. reset_frame r) from in
     fits_next m r _ _ c.requires (e.awake (ap is_idle c.requires)) refl (reset_sound m.slots r (sound_at e m.current)) after
