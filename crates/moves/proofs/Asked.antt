@@ -1,6 +1,6 @@
 -- What asking tells: granted exactly where every needed word is open, otherwise the lowest shut one.
-use Rattle.std.proofs.Common.{◌≡◌, ℕ, zero, suc, ◌+◌, ◌-◌, ◌/◌, ◌%◌, ◌<◌, ◌≤◌, Bool, true, false, cond, ◌&&◌, ◌||◌, ltb, ◌⊎◌, length, get_or, Ok, Err, sym, refl, ap, ◌∙◌, subst, inl, inr, arith}
-use Rattle.std.proofs.lemmas.Bool.{ltb-true, ltb-false, lt-ltb, le-ltb, and_parts, and_cases, or_cases, or_parts, both_ways, cases_eq, cases_lt, cases_Bool, cond-true, cond-false, cond_both}
+use Rattle.std.proofs.Common.{◌≡◌, ℕ, zero, suc, ◌+◌, ◌-◌, ◌/◌, ◌<◌, ◌≤◌, true, false, cond, ◌&&◌, ◌||◌, ltb, ◌⊎◌, length, get_or, Ok, Err, sym, refl, ap, ◌∙◌, subst, inl, inr, arith}
+use Rattle.std.proofs.lemmas.Bool.{lt-ltb, le-ltb, and_parts, and_cases, or_cases, or_parts, both_ways, cases_eq, cases_lt, cases_Bool, cond-true, cond-false, cond_both}
 use Rattle.address.specs.Addresses.{collection_of, positions_below}
 use Rattle.address.specs.AddressLaws.{Aligned}
 use Rattle.address.proofs.Addresses.{address_monotone}
@@ -13,7 +13,7 @@ use Rattle.moves.specs.Steps.{MoveResult, ask_of, fault_at}
 use Rattle.moves.specs.Fills.{word_of, is_near, fill_open, fill_shut, fill_answer}
 use Rattle.moves.specs.Lowers.{lower_reads, lower_answer}
 use Rattle.moves.specs.Asks.{spills_asked, fills_asked}
-use Rattle.moves.specs.Told.{SpillNeeds, FillNeeds, LowerNeeds, ToldShut, Told, Lowest}
+use Rattle.moves.specs.Told.{SpillNeeds, FillNeeds, LowerNeeds, Told, Lowest}
 
 -- in a store of whole pages a word and its collection have one door
 same_door : (m : Meaning) (w : ℕ) → Aligned (length m.words) → is_open m (collection_of w) ≡ is_open m w

@@ -1,7 +1,7 @@
 -- Registers that are spilled, cleared and filled again come back.
-use Rattle.std.proofs.Common.{◌≡◌, ℕ, ◌+◌, ◌-◌, ◌*◌, ◌/◌, ◌%◌, ◌<◌, ◌≤◌, min, Bool, true, false, cond, ◌&&◌, ltb, List, length, get_or, Ok, Err, sym, refl, ap, ◌∙◌, subst, inl, inr, arith}
+use Rattle.std.proofs.Common.{◌≡◌, ℕ, ◌+◌, ◌-◌, ◌*◌, ◌/◌, ◌%◌, ◌<◌, ◌≤◌, min, true, false, cond, ◌&&◌, ltb, List, length, get_or, Ok, Err, sym, refl, ap, ◌∙◌, subst, inl, inr, arith}
 use Rattle.std.proofs.lemmas.Bool.{eqb-true, eqb-false, le-ltb, both_ways, cases_Bool, cond-true, cond-false}
-use Rattle.address.specs.Addresses.{address_of, group_of, is_collection, collection_of, positions_below}
+use Rattle.address.specs.Addresses.{address_of, group_of, collection_of, positions_below}
 use Rattle.address.specs.NatBits.{nat_bit, pack}
 use Rattle.address.proofs.Addresses.{address_bit_below, address_register, positions_address, positions_before, positions_from, positions_monotone, collection_is}
 use Rattle.address.proofs.NatBits.{pack_nat}
@@ -16,10 +16,10 @@ use Rattle.moves.specs.declared.state.Movement.{Movement}
 use Rattle.moves.specs.declared.state.Movement.TheVariants.{Spill, Fill}
 use Rattle.moves.specs.Steps.{MoveResult}
 use Rattle.moves.specs.Spills.{spill_run, SpillEnd}
-use Rattle.moves.specs.Fills.{word_of, is_near, far_bits, nat_source, filled, fill_run, FillEnd}
-use Rattle.moves.specs.Told.{Told, ToldShut, SpillNeeds, FillNeeds}
-use Rattle.moves.specs.Stored.{image_at, nat_at, group_nats, Spilled, spills_to, SpillShows}
-use Rattle.moves.specs.Refilled.{Refilled, OnlyReads, fills_to, FillShows}
+use Rattle.moves.specs.Fills.{word_of, is_near, far_bits, nat_source, filled, FillEnd}
+use Rattle.moves.specs.Told.{Told, SpillNeeds, FillNeeds}
+use Rattle.moves.specs.Stored.{image_at, nat_at, group_nats, Spilled, spills_to}
+use Rattle.moves.specs.Refilled.{Refilled, fills_to, FillShows}
 use Rattle.moves.specs.RoundTrips.{run_low, run_high, refill_run, refill_after, round_trip, Ready, ComesBack}
 use Rattle.moves.proofs.Stores.{spill_shows}
 use Rattle.moves.proofs.Refills.{fill_shows}

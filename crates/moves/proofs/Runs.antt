@@ -1,16 +1,16 @@
 -- One move more of a run, and a run that meets a shut word.
-use Rattle.std.proofs.Common.{◌≡◌, ℕ, zero, suc, ◌+◌, ◌-◌, ◌<◌, Bool, true, false, cond, List, Ok, Err, Result, sym, refl, ap, ◌∙◌, arith}
+use Rattle.std.proofs.Common.{◌≡◌, ℕ, suc, ◌+◌, ◌-◌, ◌<◌, Bool, true, false, cond, List, Ok, Err, Result, refl, ap, ◌∙◌, arith}
 use Rattle.register.specs.Slots.{register_put}
 use Rattle.register.specs.declared.Slot.{Slot}
 use Rattle.store.specs.Meaning.{Meaning}
 use Rattle.store.specs.Rules.{is_open, written}
 use Rattle.moves.specs.declared.state.Cursor.{Cursor}
-use Rattle.moves.specs.Steps.{MoveResult, read_more, ask_of}
+use Rattle.moves.specs.Steps.{read_more, ask_of}
 use Rattle.moves.specs.declared.state.Movement.TheVariants.{Spill}
 use Rattle.moves.specs.Asks.{spills_asked, fills_asked}
 use Rattle.address.specs.Addresses.{positions_below}
-use Rattle.moves.specs.Spills.{spill_answer, spill_value, spill_past, spill_run, SpillEnd}
-use Rattle.moves.specs.Fills.{fill_open, fill_answer, fill_reads, filled, fill_run, FillEnd}
+use Rattle.moves.specs.Spills.{spill_answer, spill_value, spill_past, spill_run}
+use Rattle.moves.specs.Fills.{fill_open, fill_answer, fill_reads, filled, fill_run}
 
 -- a move that was granted found its words open
 pub granted_open : {E : Type 0} (b : Bool) (e : E) → ◌≡◌ {A = Result (Unit {0}) E} (Ok tt) (cond b (Ok tt) (Err e)) → b ≡ true

@@ -1,5 +1,5 @@
 -- What a run of spills leaves, by induction on its steps.
-use Rattle.std.proofs.Common.{◌≡◌, ℕ, zero, suc, ◌+◌, ◌-◌, ◌*◌, ◌/◌, ◌%◌, ◌^◌, ◌<◌, ◌≤◌, Bool, true, false, cond, ◌&&◌, ltb, List, length, get_or, set, Ok, Err, sym, refl, ap, ◌∙◌, subst, inl, inr, arith, length-set, get_or-set_other, get_or-set_same}
+use Rattle.std.proofs.Common.{◌≡◌, ℕ, zero, suc, ◌+◌, ◌-◌, ◌*◌, ◌/◌, ◌%◌, ◌^◌, ◌<◌, ◌≤◌, Bool, true, false, cond, ◌&&◌, ltb, List, length, get_or, set, sym, refl, ap, ◌∙◌, subst, inl, inr, arith, length-set, get_or-set_other, get_or-set_same}
 use Rattle.std.proofs.lemmas.Bool.{eqb-true, eqb-false, ltb-true, lt-ltb, le-ltb, and_parts, cases_eq, cond-true, cond-false, cond_both}
 use Rattle.address.specs.Addresses.{group_of, is_collection, positions_below}
 use Rattle.address.specs.NatBits.{nat_bit, with_nat, pack, nat_collection}
@@ -7,11 +7,10 @@ use Rattle.address.proofs.NatBits.{pack_more, pack_whole, pack_same}
 use Rattle.register.specs.Slots.{register_at}
 use Rattle.register.specs.declared.Slot.{Slot}
 use Rattle.store.specs.Meaning.{Meaning}
-use Rattle.store.specs.Rules.{is_open, written, refusal_of}
+use Rattle.store.specs.Rules.{is_open, written}
 use Rattle.moves.specs.declared.state.Cursor.{Cursor}
-use Rattle.moves.specs.declared.state.Counts.{Counts}
 use Rattle.moves.specs.Steps.{MoveResult, wrote_one, counted_up}
-use Rattle.moves.specs.Spills.{past_collection, past_register, spill_answer, spill_value, spill_past, spill_run, SpillEnd}
+use Rattle.moves.specs.Spills.{past_collection, past_register, spill_answer, spill_value, spill_past, spill_run}
 use Rattle.moves.specs.Asks.{spills_asked}
 use Rattle.moves.specs.Stored.{register_of, image_at, nat_at, group_nats, Spilled, spills_to, SpillShows}
 use Rattle.moves.proofs.Asked.{Spills, spills_told}

@@ -1,10 +1,9 @@
 -- Asking about every word that a run of moves needs, lowest first.
-use Rattle.std.specs.Prelude.{◌≡◌, ℕ, zero, suc, ◌+◌, ◌<◌, ◌≤◌, Bool, true, false, cond, Ok, Err, Result}
+use Rattle.std.specs.Prelude.{ℕ, zero, suc, ◌+◌, cond, Ok}
 use Rattle.address.specs.Addresses.{positions_below}
 use Rattle.store.specs.Meaning.{Meaning}
 use Rattle.store.specs.Rules.{is_open}
 use Rattle.moves.specs.declared.state.Cursor.{Cursor}
-use Rattle.moves.specs.declared.state.MoveFault.{MoveFault}
 use Rattle.moves.specs.declared.state.Movement.TheVariants.{Spill}
 use Rattle.moves.specs.Steps.{MoveResult, ask_of}
 use Rattle.moves.specs.Fills.{fill_open, fill_answer}

@@ -1,5 +1,5 @@
 -- Fills: from the backing store to the file, upward, register by register.
-use Rattle.std.specs.Prelude.{ℕ, zero, suc, ◌+◌, ◌%◌, Bool, true, false, cond, ◌&&◌, ◌||◌, List, Ok, Err, Result, ◌==◌, slice_index}
+use Rattle.std.specs.Prelude.{ℕ, zero, suc, ◌+◌, ◌%◌, Bool, cond, ◌&&◌, ◌||◌, List, Ok, Err, Result, ◌==◌, slice_index}
 use Rattle.address.specs.Addresses.{address_of, group_of, collection_of}
 use Rattle.address.specs.NatBits.{nat_bit}
 use Rattle.register.specs.Slots.{register_put}

@@ -1,5 +1,5 @@
 -- Lowering BSPSTORE.
-use Rattle.std.specs.Prelude.{ℕ, ◌%◌, Bool, true, false, cond, not, ◌&&◌, Ok, Err, ◌==◌}
+use Rattle.std.specs.Prelude.{ℕ, ◌%◌, Bool, true, cond, not, ◌&&◌, Ok, ◌==◌}
 use Rattle.address.specs.Addresses.{group_of, collection_of, positions_below}
 use Rattle.address.specs.NatBits.{nats_below}
 use Rattle.store.specs.Meaning.{Meaning}

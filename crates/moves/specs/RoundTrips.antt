@@ -8,7 +8,7 @@ use Rattle.store.specs.Meaning.{Meaning}
 use Rattle.store.specs.Rules.{is_open}
 use Rattle.moves.specs.declared.state.Cursor.{Cursor}
 use Rattle.moves.specs.Steps.{MoveResult}
-use Rattle.moves.specs.Spills.{spill_run, SpillEnd}
+use Rattle.moves.specs.Spills.{spill_run}
 use Rattle.moves.specs.Fills.{fill_run, FillEnd}
 
 -- the first position of the words from BSPSTORE to end − 1

@@ -1,5 +1,5 @@
 -- Spills: from the file to the backing store, upward, word by word.
-use Rattle.std.specs.Prelude.{ℕ, zero, suc, ◌+◌, ◌%◌, Bool, true, false, cond, List, Ok, Err}
+use Rattle.std.specs.Prelude.{ℕ, zero, suc, ◌+◌, ◌%◌, Bool, cond, List, Ok}
 use Rattle.address.specs.Addresses.{is_collection, positions_below}
 use Rattle.address.specs.NatBits.{with_nat}
 use Rattle.register.specs.Slots.{register_at}
@@ -7,9 +7,8 @@ use Rattle.register.specs.declared.Slot.{Slot}
 use Rattle.store.specs.Meaning.{Meaning}
 use Rattle.store.specs.Rules.{is_open, written}
 use Rattle.moves.specs.declared.state.Cursor.{Cursor}
-use Rattle.moves.specs.declared.state.MoveFault.{MoveFault}
 use Rattle.moves.specs.declared.state.Movement.TheVariants.{Spill}
-use Rattle.moves.specs.Steps.{MoveResult, wrote_one, fault_at, ask_of}
+use Rattle.moves.specs.Steps.{MoveResult, wrote_one, ask_of}
 
 -- the next position to be stored
 abbrev pub stored_by : Cursor → ℕ

@@ -1,5 +1,5 @@
 -- What the moves share: counts, and the fault of a move.
-use Rattle.std.specs.Prelude.{ℕ, ◌+◌, ◌-◌, ◌^◌, min, Bool, cond, Ok, Err, Result}
+use Rattle.std.specs.Prelude.{ℕ, ◌+◌, ◌-◌, ◌^◌, min, cond, Ok, Err, Result}
 use Rattle.store.specs.Meaning.{Meaning}
 use Rattle.store.specs.Rules.{is_open, refusal_of}
 use Rattle.store.specs.declared.StoreFault.{StoreFault}

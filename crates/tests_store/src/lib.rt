@@ -14,8 +14,8 @@ pub use halves::{HalfStore, Halves};
 
 // Writes `v` to word `w` of any store, and reads it again.
 pub fn echo<S: Store>(store: &mut S, w: u64, v: u64) -> Result<u64, StoreFault>
-    ensures answer { result ≡ (if is_open (meaning store.old) w then Ok v else Err (refusal_of (meaning store.old) w)) }
-    ensures after { meaning store.new ≡ written (meaning store.old) w v }
+    ensures answer { result ≡ (if is_open (S.meaning store.old) w then Ok v else Err (refusal_of (S.meaning store.old) w)) }
+    ensures after { S.meaning store.new ≡ written (S.meaning store.old) w v }
 {
     store.write(w, v)?;
     store.read(w)
@@ -23,7 +23,7 @@ pub fn echo<S: Store>(store: &mut S, w: u64, v: u64) -> Result<u64, StoreFault>
 
 // The number after that of an open word. It fits, since a store has fewer words than 2 ^ 64.
 pub fn word_after<S: Store>(store: &S, w: u64) -> Option<u64>
-    ensures { result ≡ (if is_open (meaning store.now) w then Some (w + 1) else None) }
+    ensures { result ≡ (if is_open (S.meaning store.now) w then Some (w + 1) else None) }
 {
     if store.is_open(w) { Some(w + 1) } else { None }
 }

@@ -2,7 +2,7 @@ use Rattle.std.proofs.Common.{◌≡◌, ◌-◌, ◌<◌, true, false, cond, sy
 use Rattle.std.proofs.lemmas.Result.{err_from_is_err_and}
 use Rattle.register.specs.Slots.{register_put}
 use Rattle.moves.specs.Steps.{read_more}
-use Rattle.moves.specs.Fills.{fill_open, fill_reads, filled, fill_run, FillEnd}
+use Rattle.moves.specs.Fills.{fill_open, fill_reads, filled, fill_run}
 use Rattle.moves.proofs.Runs.{granted_open, refused_shut, fill_more, fill_stop}
 use Rattle.moves.proofs.Refills.{fill_shows}
 use Rattle.moves.proofs.fills.fill_run.Goals as goal

@@ -1,7 +1,7 @@
 use Rattle.std.proofs.Common.{◌≡◌, ◌-◌, ◌<◌, true, false, cond, sym, ap, ◌∙◌, arith}
 use Rattle.std.proofs.lemmas.Result.{err_from_is_err_and}
 use Rattle.store.specs.Rules.{is_open}
-use Rattle.moves.specs.Spills.{spill_past, spill_value, spill_run, SpillEnd}
+use Rattle.moves.specs.Spills.{spill_past, spill_value, spill_run}
 use Rattle.moves.proofs.Runs.{granted_open, refused_shut, unwritten, spill_more, spill_stop}
 use Rattle.moves.proofs.Stores.{spill_shows}
 use Rattle.moves.proofs.spills.spill_until.Goals as goal

@@ -1,8 +1,8 @@
-use Rattle.std.proofs.Common.{◌≡◌, min, Ok, Err, sym, ap, ◌∙◌}
+use Rattle.std.proofs.Common.{◌≡◌, min, Err, ap, ◌∙◌}
 use Rattle.std.proofs.lemmas.Result.{err_from_is_err_and}
 use Rattle.address.specs.Addresses.{positions_below}
 use Rattle.moves.specs.RoundTrips.{run_low, run_high}
-use Rattle.moves.proofs.RoundTrips.{Trip, refused_trip, granted_trip}
+use Rattle.moves.proofs.RoundTrips.{refused_trip, granted_trip}
 use Rattle.moves.proofs.trips.spill_and_refill.Goals as goal
 
 pub returns-in_err-spill_until : goal.returns-in_err-spill_until

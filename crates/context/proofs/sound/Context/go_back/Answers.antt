@@ -11,4 +11,4 @@ invariant_of-self g c =
     let new = c.move_frame.new.self in
     let size : new.stack.size ≡ c.args.self.now.stack.size = ap (λ x. x.stack.size) c.move_frame.ensures.after ∙ frame_size g.K.Kind.zero_content g.K.Kind.image_of g.K.Kind.content_of s c.args.base _ in
     let held : c.args.base + sof_of c.args.word ≤ capacity_of new.stack.size = rw size c.requires.1 in
-    (new.region, (c.requires.0, (new.previously, (new.saving, (held, tt)))))
+    record { region = new.region; marked = c.requires.0; previously = new.previously; saving = new.saving; held = held }

@@ -30,13 +30,13 @@ returns-then-stored-from-2 g c =
     let top = c.args.top in
     let base = c.args.base in
     let high : c.min-high.result ≡ min s.stack.lo top = c.min-high.ensures in
-    let word : c.address_of_word.result ≡ address_of s.stack.start base = c.address_of_word.ensures in
+    let word : c.address_of-word.result ≡ address_of s.stack.start base = c.address_of-word.ensures in
     let fl : c.floor-floor.result ≡ floor_of s top = c.floor-floor.ensures in
     let le : floor_of s top ≤ stored_of s.stack = omega (arith, c.stored-stored.ensures, fl) in
     let lt : base < stored_of s.stack = omega (arith, c.stored-stored.ensures) in
     record {
-      answer = c.refill.ensures.answer ∙ ap (λ h. refill_answer content s base h c.address_of_word.result) high ∙ ap (refill_answer content s base (min s.stack.lo top)) word ∙ sym (refill_frame_answer nought image content s base top le lt);
-      after = c.refill.ensures.after ∙ ap (λ h. refill_after content s base h c.address_of_word.result) high ∙ ap (refill_after content s base (min s.stack.lo top)) word ∙ sym (refill_frame_after nought image content s base top le lt);
+      answer = c.refill.ensures.answer ∙ ap (λ h. refill_answer content s base h c.address_of-word.result) high ∙ ap (refill_answer content s base (min s.stack.lo top)) word ∙ sym (refill_frame_answer nought image content s base top le lt);
+      after = c.refill.ensures.after ∙ ap (λ h. refill_after content s base h c.address_of-word.result) high ∙ ap (refill_after content s base (min s.stack.lo top)) word ∙ sym (refill_frame_after nought image content s base top le lt);
     }
 
 pub returns : goal.returns
