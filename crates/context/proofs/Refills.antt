@@ -1,7 +1,6 @@
 -- Fills and a lowering that were all granted.
-use Rattle.std.proofs.Common.{◌≡◌, ℕ, Bool, true, false, cond, List, Ok, Err, Result, sym, refl, ap, ◌∙◌, arith}
+use Rattle.std.proofs.Common.{◌≡◌, ℕ, Bool, true, false, cond, List, Ok, Err, Result, refl, ap, ◌∙◌, arith}
 use Rattle.register.specs.declared.Slot.{Slot}
-use Rattle.store.specs.Meaning.{Meaning}
 use Rattle.moves.specs.Steps.{MoveResult}
 use Rattle.moves.specs.Lowers.{lower_reads, lower_answer, lower_open, lowered}
 use Rattle.moves.specs.declared.state.Cursor.{Cursor}

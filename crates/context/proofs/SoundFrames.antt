@@ -1,9 +1,9 @@
 -- A record stays sound where a context begins, its frame changes, and it parks and resumes.
-use Rattle.std.proofs.Common.{◌≡◌, ℕ, ◌+◌, ◌-◌, ◌*◌, ◌%◌, ◌^◌, ◌<◌, ◌≤◌, Bool, true, false, cond, ◌&&◌, eqb, ltb, leb, sym, refl, ap, ◌∙◌, subst, arith}
+use Rattle.std.proofs.Common.{◌≡◌, ℕ, ◌+◌, ◌%◌, ◌^◌, ◌<◌, ◌≤◌, Bool, true, false, cond, ◌&&◌, eqb, ltb, leb, sym, refl, ap, ◌∙◌, subst, arith}
 use Rattle.std.proofs.lemmas.Bool.{and_parts, leb-true, eqb-true}
 use Rattle.address.specs.Addresses.{address_of, positions_below}
 use Rattle.address.proofs.Addresses.{address_monotone, positions_address}
-use Rattle.frame.specs.Markers.{sof_of, sol_of, sor_of, rotation_of, lawful_word, word_of_parts, turned_once}
+use Rattle.frame.specs.Markers.{sof_of, sol_of, sor_of, rotation_of, lawful_word, turned_once}
 use Rattle.context.specs.declared.record.ContextRecord.{ContextRecord}
 use Rattle.context.specs.Records.{bsp_of, stored_of, top_of}
 use Rattle.context.specs.Regions.{well_formed, begun}

@@ -1,7 +1,7 @@
 -- A record stays sound at a load.
-use Rattle.std.proofs.Common.{◌≡◌, ℕ, ◌+◌, ◌-◌, ◌%◌, ◌^◌, ◌<◌, ◌≤◌, Bool, true, false, cond, leb, length, Ok, Err, Result, sym, refl, ap, ◌∙◌, subst, arith}
+use Rattle.std.proofs.Common.{◌≡◌, ℕ, ◌-◌, ◌≤◌, Bool, true, false, cond, leb, length, Ok, Err, Result, sym, refl, ap, subst, arith}
 use Rattle.std.proofs.lemmas.Bool.{leb-true}
-use Rattle.address.specs.Addresses.{address_of, positions_below}
+use Rattle.address.specs.Addresses.{positions_below}
 use Rattle.frame.specs.Markers.{sof_of}
 use Rattle.moves.specs.Steps.{MoveResult}
 use Rattle.moves.specs.declared.state.Cursor.{Cursor}
@@ -9,7 +9,7 @@ use Rattle.moves.specs.declared.state.MoveFault.{MoveFault}
 use Rattle.context.specs.declared.record.ContextRecord.{ContextRecord}
 use Rattle.context.specs.declared.refusals.Refusal.{Refusal}
 use Rattle.context.specs.declared.refusals.Refusal.TheVariants.{Depth, TooMany}
-use Rattle.context.specs.Records.{bsp_of, stored_of, top_of, with_lo, with_moves}
+use Rattle.context.specs.Records.{bsp_of, with_lo, with_moves}
 use Rattle.context.specs.Frames.{on_granted, if_granted}
 use Rattle.context.specs.Scenes.{Scene, moved, if_moved}
 use Rattle.context.specs.Returns.{refill_after, load_first, load_run, with_lowest, loaded_from, load_answer, load_after}

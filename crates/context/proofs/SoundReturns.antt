@@ -1,5 +1,5 @@
 -- A record stays sound where the context goes back to a frame below: return, restore, load.
-use Rattle.std.proofs.Common.{◌≡◌, ℕ, ◌+◌, ◌-◌, ◌*◌, ◌/◌, ◌%◌, ◌^◌, ◌<◌, ◌≤◌, min, max, Bool, true, false, cond, eqb, ltb, leb, List, length, Ok, Err, Result, sym, refl, ap, ◌∙◌, subst, mod-lt, arith}
+use Rattle.std.proofs.Common.{◌≡◌, ℕ, ◌+◌, ◌-◌, ◌%◌, ◌<◌, ◌≤◌, min, max, Bool, true, false, cond, ltb, leb, length, Ok, Err, Result, sym, refl, ap, ◌∙◌, subst, mod-lt, arith}
 use Rattle.std.proofs.lemmas.Nat.{pow_pos}
 use Rattle.std.proofs.lemmas.Bool.{leb-true, le-leb, ltb-true, ltb-false, cond_both}
 use Rattle.address.specs.Addresses.{address_of, positions_below, capacity_of}
@@ -12,16 +12,15 @@ use Rattle.moves.specs.declared.state.Cursor.{Cursor}
 use Rattle.moves.specs.declared.state.MoveFault.{MoveFault}
 use Rattle.context.specs.declared.record.ContextRecord.{ContextRecord}
 use Rattle.context.specs.declared.refusals.Refusal.{Refusal}
-use Rattle.context.specs.declared.refusals.Refusal.TheVariants.{Top, Depth, TooMany}
-use Rattle.context.specs.Records.{bsp_of, stored_of, top_of, with_frame, with_lo, with_moves}
-use Rattle.context.specs.Frames.{if_granted}
+use Rattle.context.specs.declared.refusals.Refusal.TheVariants.{Top, Depth}
+use Rattle.context.specs.Records.{bsp_of, stored_of, with_frame, with_lo, with_moves}
 use Rattle.context.specs.Scenes.{Scene, cursor_in, moved, if_moved, both, spilled, settled, with_file}
 use Rattle.context.specs.Spilling.{spill_end_of, run_to, floor_of, fills_to}
 use Rattle.context.specs.Returns.{room_asked, room_answer, room_after, refill_asked, refill_moved, refill_cursor, refill_answer, refill_after}
-use Rattle.context.specs.Returns.{frame_answer, frame_after, reframed, back_after, back_to, back_to_answer, return_base, restore_base, load_first, load_run, loaded_from, load_after}
-use Rattle.context.specs.Sound.{Sound, Closed, Stored}
+use Rattle.context.specs.Returns.{frame_answer, frame_after, reframed, back_after, back_to, back_to_answer, return_base, restore_base}
+use Rattle.context.specs.Sound.{Sound, Closed}
 use Rattle.context.proofs.SpillRuns.{Bits}
-use Rattle.context.proofs.SoundFrames.{frame_bound, locals_bound}
+use Rattle.context.proofs.SoundFrames.{frame_bound}
 use Rattle.context.proofs.SoundSpills.{end_below, end_least, end_stores, spilled_sound, spilled_whole, moved_both, granted_both}
 
 -- ---- the cases of the moves: what they answer, with the record that they leave

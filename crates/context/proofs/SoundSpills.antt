@@ -1,15 +1,14 @@
 -- A record stays sound where the context spills: alloc, flush, the early spill; and at an early fill.
-use Rattle.std.proofs.Common.{◌≡◌, ℕ, zero, suc, ◌+◌, ◌-◌, ◌*◌, ◌%◌, ◌^◌, ◌<◌, ◌≤◌, max, Bool, true, false, cond, ◌&&◌, ◌||◌, eqb, ltb, leb, List, length, Ok, Err, Result, sym, refl, ap, ◌∙◌, subst, arith, length-set}
-use Rattle.std.proofs.lemmas.Bool.{and_parts, leb-true, ltb-true, ltb-false, cases_Bool, cond_both}
+use Rattle.std.proofs.Common.{◌≡◌, ℕ, zero, suc, ◌+◌, ◌-◌, ◌%◌, ◌^◌, ◌<◌, ◌≤◌, max, Bool, true, false, cond, ◌||◌, eqb, ltb, leb, List, length, Ok, Err, Result, sym, refl, ◌∙◌, subst, arith, length-set}
+use Rattle.std.proofs.lemmas.Bool.{and_parts, leb-true, ltb-true, ltb-false, cond_both}
 use Rattle.address.specs.Addresses.{address_of, positions_below, capacity_of}
-use Rattle.address.proofs.Addresses.{address_monotone, positions_monotone}
-use Rattle.frame.specs.Markers.{sof_of, sol_of, sor_of, rotation_of, lawful, lawful_word, word_of_parts}
+use Rattle.address.proofs.Addresses.{positions_monotone}
+use Rattle.frame.specs.Markers.{sof_of, sor_of, rotation_of, lawful, word_of_parts}
 use Rattle.register.specs.Slots.{registers_cleared}
 use Rattle.register.specs.declared.Slot.{Slot}
 use Rattle.store.specs.Meaning.{Meaning}
 use Rattle.moves.specs.Steps.{MoveResult}
-use Rattle.moves.specs.Spills.{SpillEnd}
-use Rattle.moves.specs.Fills.{FillEnd, fill_run, fill_open, fill_reads, filled}
+use Rattle.moves.specs.Fills.{FillEnd, fill_run, fill_open}
 use Rattle.moves.specs.declared.state.Cursor.{Cursor}
 use Rattle.context.specs.declared.record.ContextRecord.{ContextRecord}
 use Rattle.context.specs.declared.refusals.Refusal.{Refusal}
@@ -17,7 +16,7 @@ use Rattle.context.specs.declared.refusals.Refusal.TheVariants.{Marker, Rotation
 use Rattle.context.specs.Records.{bsp_of, stored_of, top_of, with_frame, with_lo, with_moves}
 use Rattle.context.specs.Frames.{if_granted}
 use Rattle.context.specs.Scenes.{Scene, cursor_in, moved, if_moved, spilled}
-use Rattle.context.specs.Spilling.{spill_end_of, alloc_marker, run_to, floor_of, top_with, grow_run, grown, cleared_to, alloc_after, flush_run, flush_answer}
+use Rattle.context.specs.Spilling.{spill_end_of, alloc_marker, run_to, floor_of, top_with, grow_run, grown, alloc_after, flush_run, flush_answer}
 use Rattle.context.specs.Spilling.{early_spill_run, early_spill_after, is_dirty, has_room, early_fill_run, early_fill_after}
 use Rattle.context.specs.Sound.{Sound, Closed, Stored}
 use Rattle.context.proofs.SpillRuns.{Ran, spills_run}

@@ -1,5 +1,5 @@
 -- How far spills go, and what they keep.
-use Rattle.std.proofs.Common.{◌≡◌, ℕ, zero, suc, ◌+◌, ◌-◌, ◌%◌, ◌^◌, ◌<◌, ◌≤◌, Bool, true, false, cond, eqb, List, Ok, Err, Result, sym, refl, ap, ◌∙◌, subst, pow-suc, arith}
+use Rattle.std.proofs.Common.{◌≡◌, ℕ, zero, suc, ◌+◌, ◌%◌, ◌^◌, ◌<◌, ◌≤◌, Bool, true, false, cond, List, Ok, Err, sym, refl, ◌∙◌, subst, pow-suc, arith}
 use Rattle.std.proofs.lemmas.Bool.{eqb-true, eqb-false}
 use Rattle.address.specs.Addresses.{is_collection}
 use Rattle.address.specs.NatBits.{with_nat}
@@ -8,7 +8,7 @@ use Rattle.register.specs.Slots.{register_at}
 use Rattle.register.specs.declared.Slot.{Slot}
 use Rattle.store.specs.Meaning.{Meaning}
 use Rattle.store.specs.Rules.{is_open, written}
-use Rattle.moves.specs.Steps.{MoveResult, fault_at}
+use Rattle.moves.specs.Steps.{fault_at}
 use Rattle.moves.specs.Spills.{SpillEnd, spill_run, spill_past, spill_value, stored_by, past_collection, past_register}
 use Rattle.moves.specs.declared.state.Cursor.{Cursor}
 use Rattle.moves.specs.declared.state.MoveFault.{MoveFault}

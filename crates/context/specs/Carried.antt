@@ -1,6 +1,6 @@
 -- The registers of a context's stack, wherever they stand: in the file, or in the backing store with their NaT bits in RNAT or
 -- in their collections.
-use Rattle.std.specs.Prelude.{◌≡◌, ℕ, ◌+◌, ◌%◌, ◌<◌, ◌≤◌, Bool, true, cond, length, ◌==◌, nat_lt, slice_index, slice_index_or}
+use Rattle.std.specs.Prelude.{◌≡◌, ℕ, ◌+◌, ◌%◌, ◌<◌, ◌≤◌, true, cond, length, ◌==◌, nat_lt, slice_index, slice_index_or}
 use Rattle.address.specs.Addresses.{capacity_of}
 use Rattle.address.specs.NatBits.{nat_bit}
 use Rattle.frame.specs.Markers.{lawful_word}

@@ -1,5 +1,5 @@
 -- Instructions on the frame: what becomes of the record, the file and the answer.
-use Rattle.std.specs.Prelude.{ℕ, ◌+◌, ◌-◌, ◌*◌, ◌^◌, Bool, true, false, cond, ◌||◌, List, Some, None, Ok, Err, Option, Result}
+use Rattle.std.specs.Prelude.{ℕ, ◌+◌, ◌-◌, Bool, cond, ◌||◌, List, Some, None, Ok, Err, Option, Result}
 use Rattle.frame.specs.Markers.{sof_of, sol_of, sor_of, rotation_of, lawful_word, word_of_parts, turned_once, place_of}
 use Rattle.register.specs.Slots.{register_at, register_put}
 use Rattle.register.specs.declared.Slot.{Slot}

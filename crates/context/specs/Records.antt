@@ -1,5 +1,5 @@
 -- What a context's record says, and the record with some of its numbers changed.
-use Rattle.std.specs.Prelude.{◌≡◌, ℕ, ◌+◌, ◌≤◌}
+use Rattle.std.specs.Prelude.{◌≡◌, ℕ, ◌+◌}
 use Rattle.address.specs.Addresses.{address_of, positions_below}
 use Rattle.frame.specs.Markers.{sof_of}
 use Rattle.moves.specs.declared.state.Cursor.{Cursor}

@@ -1,11 +1,10 @@
 -- Instructions that go back to a frame below: return, restore, load; park and resume.
-use Rattle.std.specs.Prelude.{ℕ, ◌+◌, ◌-◌, min, max, Bool, true, false, cond, List, Ok, Err, Result, nat_le, nat_lt}
+use Rattle.std.specs.Prelude.{ℕ, ◌+◌, ◌-◌, min, max, cond, Ok, Err, Result, nat_le, nat_lt}
 use Rattle.address.specs.Addresses.{address_of, is_collection, positions_below, capacity_of}
 use Rattle.frame.specs.Markers.{sof_of, sol_of}
 use Rattle.register.specs.Slots.{registers_cleared}
 use Rattle.moves.specs.Steps.{MoveResult}
-use Rattle.moves.specs.Fills.{FillEnd}
-use Rattle.moves.specs.Lowers.{lower_answer, lower_open, lowered}
+use Rattle.moves.specs.Lowers.{lower_answer, lowered}
 use Rattle.moves.specs.Asks.{spills_asked, fills_asked}
 use Rattle.moves.specs.declared.state.Cursor.{Cursor}
 use Rattle.context.specs.declared.record.ContextRecord.{ContextRecord}

@@ -1,9 +1,8 @@
 -- Instructions that spill: alloc, flush and the early spill; and the early fill.
-use Rattle.std.specs.Prelude.{ℕ, ◌+◌, ◌-◌, max, Bool, true, false, cond, ◌&&◌, ◌||◌, List, length, Ok, Err, Result, ◌==◌, nat_le, nat_lt}
+use Rattle.std.specs.Prelude.{ℕ, ◌+◌, ◌-◌, max, Bool, cond, ◌&&◌, ◌||◌, length, Ok, Err, Result, ◌==◌, nat_le, nat_lt}
 use Rattle.address.specs.Addresses.{address_of, capacity_of}
-use Rattle.frame.specs.Markers.{sof_of, sol_of, sor_of, rotation_of, lawful, word_of_parts}
+use Rattle.frame.specs.Markers.{sof_of, sor_of, rotation_of, lawful, word_of_parts}
 use Rattle.register.specs.Slots.{registers_cleared}
-use Rattle.moves.specs.Steps.{MoveResult}
 use Rattle.moves.specs.Spills.{SpillEnd, spill_run}
 use Rattle.moves.specs.Fills.{FillEnd, fill_run}
 use Rattle.context.specs.declared.record.ContextRecord.{ContextRecord}

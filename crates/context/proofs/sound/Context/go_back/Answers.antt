@@ -1,4 +1,4 @@
-use Rattle.std.proofs.Common.{◌≡◌, ◌+◌, ◌≤◌, ap, ◌∙◌, arith}
+use Rattle.std.proofs.Common.{◌≡◌, ◌+◌, ◌≤◌, ap, ◌∙◌}
 use Rattle.address.specs.Addresses.{capacity_of}
 use Rattle.frame.specs.Markers.{sof_of}
 use Rattle.context.specs.Scenes.{seen}

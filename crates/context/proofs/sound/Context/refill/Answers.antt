@@ -1,4 +1,4 @@
-use Rattle.std.proofs.Common.{◌≡◌, cond, Ok, sym, ap, ◌∙◌, rules}
+use Rattle.std.proofs.Common.{◌≡◌, Ok, rules}
 use Rattle.context.specs.Scenes.{seen}
 use Rattle.context.specs.Spilling.{fills_to}
 use Rattle.context.specs.Returns.{refill_answer, refill_after, refill_asked}
