@@ -1,11 +1,11 @@
 -- Bounds that follow from an engine's invariants.
-use Rattle.std.proofs.Common.{◌≡◌, ℕ, ◌+◌, ◌-◌, ◌≤◌, Bool, true, false, cond, ◌&&◌, eqb, List, length, Ok, Err, Result, sym, refl, ap, ◌∙◌, subst, arith}
+use Rattle.std.proofs.Common.{◌≡◌, ℕ, ◌+◌, ◌≤◌, Bool, true, false, cond, eqb, List, length, Ok, Err, Result, sym, refl, ap, ◌∙◌, subst, arith}
 use Rattle.std.proofs.lemmas.Bool.{and_parts, eqb-true}
 use Rattle.register.specs.declared.Slot.{Slot}
 use Rattle.store.specs.Meaning.{Meaning}
 use Rattle.moves.specs.Steps.{MoveResult}
 use Rattle.context.specs.declared.refusals.Refusal.{Refusal}
-use Rattle.context.specs.declared.refusals.Refusal.TheVariants.{Depth, Operand, State as WrongState, Host as WrongHost}
+use Rattle.context.specs.declared.refusals.Refusal.TheVariants.{Depth, State as WrongState, Host as WrongHost}
 use Rattle.context.specs.Scenes.{moved}
 use Rattle.context.specs.Spilling.{alloc_after}
 use Rattle.context.specs.Returns.{restore_base, back_to_answer}

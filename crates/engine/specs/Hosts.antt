@@ -4,7 +4,7 @@ use Rattle.register.specs.declared.Slot.{Slot}
 use Rattle.store.specs.Meaning.{Meaning}
 use Rattle.moves.specs.declared.state.Counts.{Counts}
 use Rattle.context.specs.declared.record.ContextRecord.{ContextRecord}
-use Rattle.context.specs.Scenes.{Scene, with_stack}
+use Rattle.context.specs.Scenes.{Scene}
 use Rattle.engine.specs.declared.machine.Machine.{Machine}
 use Rattle.engine.specs.declared.machine.State.{State}
 use Rattle.engine.specs.Tables.{record_at}

@@ -1,6 +1,5 @@
 -- What each instruction answers, in the order of the questions.
-use Rattle.std.specs.Prelude.{ℕ, ◌+◌, ◌/◌, ◌%◌, Bool, true, false, cond, ◌&&◌, ◌||◌, List, [], ◌∷◌, Ok, Err, Result, nat_le}
-use Rattle.register.specs.declared.Slot.{Slot}
+use Rattle.std.specs.Prelude.{ℕ, ◌+◌, Bool, true, false, cond, ◌&&◌, ◌||◌, List, [], ◌∷◌, Ok, Err, Result, nat_le}
 use Rattle.context.specs.declared.record.ContextRecord.{ContextRecord}
 use Rattle.context.specs.declared.record.Status.{Status}
 use Rattle.context.specs.declared.record.Status.TheVariants.{Empty, Current, Parked}

@@ -1,20 +1,16 @@
 -- Instructions on the context that is driven.
-use Rattle.std.specs.Prelude.{ℕ, ◌/◌, ◌%◌, Bool, true, false, cond, List, Ok, Err, Result, ◌==◌}
+use Rattle.std.specs.Prelude.{ℕ, ◌/◌, ◌%◌, Bool, Ok, Err, Result, ◌==◌}
 use Rattle.register.specs.declared.Slot.{Slot}
 use Rattle.context.specs.declared.record.ContextRecord.{ContextRecord}
 use Rattle.context.specs.declared.refusals.Refusal.{Refusal}
-use Rattle.context.specs.declared.refusals.Refusal.TheVariants.{Mode}
-use Rattle.context.specs.Frames.{called, covered, rotated_frame, reset_frame, previous_set, previous_answer, read_answer}
-use Rattle.context.specs.Scenes.{Scene, with_stack, spilled}
-use Rattle.context.specs.Spilling.{alloc_answer, alloc_after, flush_run, flush_answer, early_spill_answer, early_spill_after, early_fill_answer, early_fill_after}
-use Rattle.context.specs.Returns.{return_base, restore_base, back_to, back_to_answer, load_answer, load_after}
+use Rattle.context.specs.Scenes.{Scene}
 use Rattle.engine.specs.declared.instructions.Answer.{Answer}
-use Rattle.engine.specs.declared.instructions.Answer.TheVariants.{Done, Marker, Register, Flushed}
+use Rattle.engine.specs.declared.instructions.Answer.TheVariants.{Register, Flushed}
 use Rattle.engine.specs.declared.machine.Machine.{Machine}
 use Rattle.engine.specs.declared.machine.State.{State}
 use Rattle.engine.specs.declared.machine.State.TheVariants.{Idle, Running, Covered, Flushed as FlushedState}
 use Rattle.engine.specs.Tables.{record_at}
-use Rattle.engine.specs.Hosts.{Host, scene_of, lifted, with_machine, in_state, put_back}
+use Rattle.engine.specs.Hosts.{Host, lifted, with_machine, in_state, put_back}
 
 -- the answer that a value gives
 abbrev pub answered : {T : Type 0} → (T → Answer) → Result T Refusal → Result Answer Refusal

@@ -1,5 +1,5 @@
 -- One instruction: its answer, and what it leaves.
-use Rattle.std.specs.Prelude.{ℕ, Bool, true, false, cond, ◌&&◌, List, length, Ok, Err, Result, ◌==◌}
+use Rattle.std.specs.Prelude.{ℕ, Bool, cond, ◌&&◌, List, length, Ok, Err, Result, ◌==◌}
 use Rattle.register.specs.declared.Slot.{Slot}
 use Rattle.context.specs.declared.record.ContextRecord.{ContextRecord}
 use Rattle.context.specs.declared.refusals.Refusal.{Refusal}
@@ -7,7 +7,7 @@ use Rattle.context.specs.declared.refusals.Refusal.TheVariants.{Operand, State a
 use Rattle.context.specs.Frames.{called, covered, rotated_frame, reset_frame, previous_set, previous_answer, write_file, copy_file, add_file}
 use Rattle.context.specs.Frames.{read_answer, one_register, two_registers, three_registers}
 use Rattle.context.specs.Records.{bsp_of}
-use Rattle.context.specs.Scenes.{Scene, spilled, with_file}
+use Rattle.context.specs.Scenes.{spilled}
 use Rattle.context.specs.Spilling.{alloc_answer, alloc_after, flush_run, flush_answer, early_spill_answer, early_spill_after, early_fill_answer, early_fill_after}
 use Rattle.context.specs.Returns.{return_base, restore_base, back_to, back_to_answer, load_answer, load_after}
 use Rattle.engine.specs.declared.instructions.Instruction.{Instruction}

@@ -1,7 +1,6 @@
 -- What stands in the table of contexts.
-use Rattle.std.specs.Prelude.{ℕ, List, slice_index_or}
+use Rattle.std.specs.Prelude.{ℕ, slice_index_or}
 use Rattle.context.specs.declared.record.ContextRecord.{ContextRecord}
-use Rattle.context.specs.declared.record.Status.{Status}
 use Rattle.context.specs.declared.record.Status.TheVariants.{Empty}
 use Rattle.engine.specs.declared.machine.Machine.{Machine}
 

@@ -3,7 +3,6 @@ use address::nats_below;
 use moves::{Counts, Cursor, MoveFault, Movement, Place, spill_and_refill, spill_until};
 use register::{Kind, Pair, Slot, Word, put_register, register_at};
 use std::process::Abort;
-use std::test::Fail;
 use store::{Cause, FlatStore, Store, StoreFault};
 
 // Both lanes of a pair are numbers.
@@ -24,9 +23,8 @@ fn group_nats(group: u64) -> u64 {
     }
 }
 
-fn check_word<S: Store>(rt: &impl Abort, store: &S, word: u64, value: u64) -> Result<(), Fail> {
-    assert_eq!(rt; store.read(word).unwrap_or(!value), value);
-    Ok(())
+fn check_word<S: Store>(rt: &impl Abort, store: &S, word: u64, value: u64, place: &str) {
+    assert_eq!(rt; store.read(word).unwrap_or(!value), value, "{place}");
 }
 
 fn cursor_at(word: u64) -> Cursor {
@@ -42,7 +40,7 @@ fn cursor_at(word: u64) -> Cursor {
 }
 
 // 102 words from word 64 + offset on, of which one or two are collections.
-fn trip<K: Kind>(rt: &impl Abort, slots: &mut [Slot<K>], offset: u8) -> Result<(), Fail> {
+fn trip<K: Kind>(rt: &impl Abort, slots: &mut [Slot<K>], offset: u8) {
     let low = u64::from(offset);
     for position in low..low + 102 {
         let content = K::of_word(image_of(position));
@@ -57,49 +55,47 @@ fn trip<K: Kind>(rt: &impl Abort, slots: &mut [Slot<K>], offset: u8) -> Result<(
     assert_eq!(rt; at.bspstore, end);
     assert_eq!(rt; at.rnat, nats_below(group_nats(end / 64), end));
     assert_eq!(rt; at.counts.written, 102);
-    check_word(rt, &store, 127, group_nats(1)).note("the first collection")?;
-    check_word(rt, &store, 130, image_of(65)).note("past the first collection")?;
+    check_word(rt, &store, 127, group_nats(1), "the first collection");
+    check_word(rt, &store, 130, image_of(65), "past the first collection");
     if end > 191 {
-        check_word(rt, &store, 191, group_nats(2)).note("the second collection")?;
+        check_word(rt, &store, 191, group_nats(2), "the second collection");
     }
-    check_word(rt, &store, low + 63, 0).note("below")?;
-    check_word(rt, &store, end, 0).note("above")?;
+    check_word(rt, &store, low + 63, 0, "below");
+    check_word(rt, &store, end, 0, "above");
     for position in low..low + 102 {
         let register = register_at(slots, position);
         assert_eq!(rt; register.content.image(), image_of(position));
         assert_eq!(rt; register.nat, nat_of(position));
     }
-    Ok(())
 }
 
-fn at_every_alignment<K: Kind>(rt: &impl Abort, slots: &mut [Slot<K>]) -> Result<(), Fail> {
+fn at_every_alignment<K: Kind>(rt: &impl Abort, slots: &mut [Slot<K>]) {
     for offset in 0..64 {
-        trip(rt, slots, offset)?;
+        trip(rt, slots, offset);
     }
-    Ok(())
 }
 
 #[test]
-fn words_at_every_alignment(rt: HostRuntime) -> Result<(), Fail> {
+fn words_at_every_alignment(rt: HostRuntime) {
     let mut slots = [Slot {
         content: Word::zero(),
         nat: false,
     }; 128];
-    at_every_alignment(&rt, &mut slots)
+    at_every_alignment(&rt, &mut slots);
 }
 
 #[test]
-fn pairs_at_every_alignment(rt: HostRuntime) -> Result<(), Fail> {
+fn pairs_at_every_alignment(rt: HostRuntime) {
     let mut slots = [Slot {
         content: Pair::zero(),
         nat: false,
     }; 128];
-    at_every_alignment(&rt, &mut slots)
+    at_every_alignment(&rt, &mut slots);
 }
 
 // A store that ends after the first collection.
 #[test]
-fn stops_at_the_end(rt: HostRuntime) -> Result<(), Fail> {
+fn stops_at_the_end(rt: HostRuntime) {
     let slots = [Slot {
         content: Word { value: 7 },
         nat: true,
@@ -125,5 +121,5 @@ fn stops_at_the_end(rt: HostRuntime) -> Result<(), Fail> {
     );
     assert_eq!(rt; at.bspstore, 128);
     assert_eq!(rt; at.rnat, 0);
-    check_word(&rt, &store, 126, 7)
+    check_word(&rt, &store, 126, 7, "the last register");
 }

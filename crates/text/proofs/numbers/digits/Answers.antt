@@ -2,7 +2,7 @@ use Rattle.std.proofs.Common.{◌≡◌, ◌+◌, ◌-◌, ◌*◌, true, false,
 use Rattle.text.specs.Numbers.{worth, after_digits, begins_with_digit}
 use Rattle.text.proofs.Decimals.{begins, begins_not, worth_step, after_step, worth_stop, after_stop, worth_grows}
 use Rattle.text.proofs.numbers.digits.Goals as goal
-use Rattle.text.proofs.numbers.digits.Goals.{in_default, in_default·2, in_default·3}
+use Rattle.text.proofs.numbers.digits.Goals.{in_default, in_default-2, in_default-3}
 
 pub loop-left-preserved : goal.loop-left-preserved
 loop-left-preserved c =
@@ -22,7 +22,7 @@ returns c =
     let s = c.loop-left.left.now in
     let stop : begins_with_digit s ≡ false = elim c.if-left-lt1.branch [
       | in_default w ↦ begins_not s (λ p q r. omega (arith, ltb-true, ltb-false))
-      | in_default·2 w ↦ begins_not s (λ p q r. omega (arith, ltb-true, ltb-false))
-      | in_default·3 w ↦ begins_not s (λ p q r. omega (arith, ltb-true, ltb-false))
+      | in_default-2 w ↦ begins_not s (λ p q r. omega (arith, ltb-true, ltb-false))
+      | in_default-3 w ↦ begins_not s (λ p q r. omega (arith, ltb-true, ltb-false))
     ] in
     (sym (worth_stop c.loop-left.n s stop) ∙ c.loop-left.invariant.0, sym (after_stop s stop) ∙ c.loop-left.invariant.1)

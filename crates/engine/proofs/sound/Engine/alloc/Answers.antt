@@ -1,11 +1,9 @@
-use Rattle.std.proofs.Common.{◌≡◌, ◌≤◌, true, length, sym, ap, ◌∙◌, subst}
-use Rattle.context.specs.declared.record.ContextRecord.{ContextRecord}
+use Rattle.std.proofs.Common.{◌≡◌, ◌≤◌, length, sym, ap, ◌∙◌, subst}
 use Rattle.context.specs.Scenes.{seen}
-use Rattle.context.specs.Sound.{Sound, Closed, Stored}
+use Rattle.context.specs.Sound.{Sound}
 use Rattle.context.specs.Spilling.{alloc_after}
 use Rattle.context.proofs.SoundSpills.{alloc_sound, alloc_status}
 use Rattle.engine.specs.Invariants.{is_idle}
-use Rattle.engine.specs.Invariants.{is_closed, is_flushed, is_current_entry, Fits}
 use Rattle.engine.proofs.Invariants.{driven_in, sound_at, recount, fits_next}
 use Rattle.engine.proofs.sound.Engine.alloc.Goals as goal
 

@@ -1,12 +1,10 @@
-use Rattle.std.proofs.Common.{◌≡◌, ◌≤◌, true, length, sym, refl, ap, ◌∙◌, subst}
-use Rattle.context.specs.declared.record.ContextRecord.{ContextRecord}
-use Rattle.context.specs.Scenes.{seen}
-use Rattle.context.specs.Sound.{Sound, Closed, Stored}
+use Rattle.std.proofs.Common.{sym, refl, subst}
+use Rattle.context.specs.Sound.{Sound}
 use Rattle.context.specs.Regions.{begun}
 use Rattle.context.proofs.SoundFrames.{begun_sound}
 use Rattle.engine.specs.Hosts.{in_state}
 use Rattle.engine.specs.declared.machine.State.TheVariants.{Running}
-use Rattle.engine.specs.Invariants.{is_closed, is_flushed, is_current_entry, Fits}
+use Rattle.engine.specs.Invariants.{Fits}
 use Rattle.engine.proofs.Invariants.{fits_running}
 use Rattle.engine.proofs.sound.Engine.begin.Goals as goal
 

@@ -1,14 +1,11 @@
-use Rattle.std.proofs.Common.{◌≡◌, ◌≤◌, true, length, sym, refl, ap, ◌∙◌, subst}
-use Rattle.context.specs.declared.record.ContextRecord.{ContextRecord}
-use Rattle.context.specs.Scenes.{seen}
-use Rattle.context.specs.Sound.{Sound, Closed, Stored}
+use Rattle.std.proofs.Common.{◌≡◌, sym, ap, ◌∙◌, subst}
 use Rattle.context.specs.Frames.{covered}
 use Rattle.context.proofs.SoundFrames.{covered_sound, covered_closed}
 use Rattle.std.proofs.lemmas.Bool.{false≢true}
 use Rattle.engine.specs.Invariants.{is_idle}
 use Rattle.engine.specs.Hosts.{in_state}
 use Rattle.engine.specs.declared.machine.State.TheVariants.{Covered}
-use Rattle.engine.specs.Invariants.{is_closed, is_flushed, is_current_entry, Fits}
+use Rattle.engine.specs.Invariants.{Fits}
 use Rattle.engine.proofs.Invariants.{driven_in, sound_at, fits_in}
 use Rattle.engine.proofs.sound.Engine.cover.Goals as goal
 

@@ -1,4 +1,4 @@
-use Rattle.std.proofs.Common.{◌≡◌, ◌+◌, ◌%◌, ◌^◌, ◌<◌, ◌≤◌, true, length, get_or, set, sym, subst, arith, length-set, get_or-set_same}
+use Rattle.std.proofs.Common.{◌≡◌, ◌+◌, ◌%◌, ◌^◌, ◌<◌, ◌≤◌, true, length, sym, subst, arith, length-set, get_or-set_same}
 use Rattle.address.specs.Addresses.{capacity_of}
 use Rattle.frame.specs.Markers.{sof_of, lawful_word}
 use Rattle.context.specs.declared.record.ContextRecord.{ContextRecord}
@@ -7,7 +7,7 @@ use Rattle.engine.specs.Tables.{empty_record}
 use Rattle.engine.specs.Rules.{is_parked_entry}
 use Rattle.engine.specs.Hosts.{in_state}
 use Rattle.engine.specs.Invariants.{is_current_entry, Fits}
-use Rattle.engine.proofs.Entries.{put_in, put_one}
+use Rattle.engine.proofs.Entries.{put_in}
 use Rattle.engine.proofs.sound.Engine.drive.Goals as goal
 
 pub invariant_of-self : goal.invariant_of-self

@@ -1,11 +1,10 @@
 use Rattle.std.proofs.Common.{◌≡◌, ◌≤◌, true, length, sym, ap, ◌∙◌, subst}
-use Rattle.context.specs.declared.record.ContextRecord.{ContextRecord}
 use Rattle.context.specs.Scenes.{seen}
-use Rattle.context.specs.Sound.{Sound, Closed, Stored}
+use Rattle.context.specs.Sound.{Sound, Closed}
 use Rattle.std.proofs.lemmas.Bool.{both_ways}
 use Rattle.context.specs.Spilling.{early_fill_after}
 use Rattle.context.proofs.SoundSpills.{early_fill_sound, early_fill_status, early_fill_closed}
-use Rattle.engine.specs.Invariants.{is_closed, is_flushed, is_current_entry, Fits}
+use Rattle.engine.specs.Invariants.{is_flushed, is_current_entry, Fits}
 use Rattle.engine.proofs.Invariants.{driven_in, sound_at, recount, closed_in, fits_in}
 use Rattle.engine.proofs.sound.Engine.early_fill.Goals as goal
 

@@ -1,14 +1,13 @@
-use Rattle.std.proofs.Common.{◌≡◌, ◌≤◌, true, length, sym, refl, ap, ◌∙◌, subst}
-use Rattle.context.specs.declared.record.ContextRecord.{ContextRecord}
+use Rattle.std.proofs.Common.{◌≡◌, true, sym, ap, subst}
 use Rattle.context.specs.Scenes.{seen}
-use Rattle.context.specs.Sound.{Sound, Closed, Stored}
+use Rattle.context.specs.Sound.{Sound, Closed}
 use Rattle.std.proofs.lemmas.Bool.{both_ways}
 use Rattle.context.specs.Scenes.{spilled}
 use Rattle.context.specs.Spilling.{flush_run}
 use Rattle.context.proofs.SoundSpills.{flushed_sound, flushed_stored, flush_granted}
 use Rattle.engine.specs.Hosts.{in_state}
 use Rattle.engine.specs.Running.{after_flush}
-use Rattle.engine.specs.Invariants.{is_closed, is_flushed, is_current_entry, Fits}
+use Rattle.engine.specs.Invariants.{is_flushed, is_current_entry, Fits}
 use Rattle.engine.proofs.Invariants.{driven_in, sound_at, closed_in, fits_in, flush_closes}
 use Rattle.engine.proofs.sound.Engine.flush.Goals as goal
 

@@ -1,14 +1,13 @@
-use Rattle.std.proofs.Common.{◌≡◌, ◌≤◌, true, length, sym, refl, ap, ◌∙◌, subst}
-use Rattle.context.specs.declared.record.ContextRecord.{ContextRecord}
+use Rattle.std.proofs.Common.{◌≡◌, ◌≤◌, true, length, sym, ap, ◌∙◌, subst}
 use Rattle.context.specs.Scenes.{seen}
-use Rattle.context.specs.Sound.{Sound, Closed, Stored}
+use Rattle.context.specs.Sound.{Sound, Closed}
 use Rattle.std.proofs.lemmas.Bool.{false≢true}
 use Rattle.context.specs.Returns.{load_after}
 use Rattle.context.proofs.SoundLoads.{load_sound, load_closed, load_status, load_stopped}
 use Rattle.engine.specs.Invariants.{is_idle}
 use Rattle.engine.specs.Hosts.{in_state}
 use Rattle.engine.specs.declared.machine.State.TheVariants.{Covered}
-use Rattle.engine.specs.Invariants.{is_closed, is_flushed, is_current_entry, Fits}
+use Rattle.engine.specs.Invariants.{is_closed, is_current_entry, Fits}
 use Rattle.engine.proofs.Invariants.{driven_in, sound_at, recount, closed_in, fits_in}
 use Rattle.engine.proofs.sound.Engine.load.Goals as goal
 

@@ -1,12 +1,10 @@
-use Rattle.std.proofs.Common.{◌≡◌, ◌≤◌, true, length, sym, refl, ap, ◌∙◌, subst}
-use Rattle.context.specs.declared.record.ContextRecord.{ContextRecord}
-use Rattle.context.specs.Scenes.{seen}
-use Rattle.context.specs.Sound.{Sound, Closed, Stored}
+use Rattle.std.proofs.Common.{◌≡◌, sym, refl, ap, ◌∙◌, subst}
+use Rattle.context.specs.Sound.{Closed, Stored}
 use Rattle.context.specs.Returns.{parked}
 use Rattle.context.proofs.SoundFrames.{parked_sound}
 use Rattle.engine.specs.Hosts.{in_state}
 use Rattle.engine.specs.declared.machine.State.TheVariants.{Idle}
-use Rattle.engine.specs.Invariants.{is_closed, is_flushed, is_current_entry, Fits}
+use Rattle.engine.specs.Invariants.{is_closed, is_flushed, Fits}
 use Rattle.engine.proofs.Invariants.{driven_in, sound_at, closed_in, fits_idle}
 use Rattle.engine.proofs.sound.Engine.park.Goals as goal
 

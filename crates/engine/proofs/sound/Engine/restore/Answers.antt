@@ -1,15 +1,13 @@
-use Rattle.std.proofs.Common.{◌≡◌, ◌≤◌, true, false, length, Err, sym, refl, ap, ◌∙◌, subst}
-use Rattle.context.specs.declared.record.ContextRecord.{ContextRecord}
+use Rattle.std.proofs.Common.{◌≡◌, ◌≤◌, true, length, sym, refl, ap, ◌∙◌, subst}
 use Rattle.context.specs.Scenes.{seen}
-use Rattle.context.specs.Sound.{Sound, Closed, Stored}
+use Rattle.context.specs.Sound.{Sound, Closed}
 use Rattle.context.specs.Returns.{back_to, restore_base}
 use Rattle.context.proofs.SoundReturns.{restore_sound, restore_stopped, back_status}
 use Rattle.frame.specs.Markers.{lawful_word}
-use Rattle.engine.specs.Invariants.{is_idle}
 use Rattle.engine.specs.Hosts.{in_state}
 use Rattle.engine.specs.declared.machine.State.TheVariants.{Running}
 use Rattle.engine.proofs.Invariants.{closed_awake}
-use Rattle.engine.specs.Invariants.{is_closed, is_flushed, is_current_entry, Fits}
+use Rattle.engine.specs.Invariants.{Fits}
 use Rattle.engine.proofs.Invariants.{driven_in, sound_at, recount, closed_in, fits_in, fits_next}
 use Rattle.engine.proofs.sound.Engine.restore.Goals as goal
 

@@ -1,14 +1,11 @@
-use Rattle.std.proofs.Common.{◌≡◌, ◌≤◌, true, length, sym, refl, ap, ◌∙◌, subst, rules}
-use Rattle.context.specs.declared.record.ContextRecord.{ContextRecord}
-use Rattle.context.specs.Scenes.{seen}
-use Rattle.context.specs.Sound.{Sound, Closed, Stored}
+use Rattle.std.proofs.Common.{◌≡◌, true, sym, refl, ap, ◌∙◌, subst, rules}
 use Rattle.context.specs.Returns.{resumed}
 use Rattle.context.proofs.SoundFrames.{resumed_sound}
 use Rattle.engine.specs.Tables.{record_at}
 use Rattle.engine.specs.Rules.{is_parked_entry}
 use Rattle.engine.specs.Hosts.{in_state}
 use Rattle.engine.specs.declared.machine.State.TheVariants.{Flushed}
-use Rattle.engine.specs.Invariants.{is_closed, is_flushed, is_current_entry, Fits}
+use Rattle.engine.specs.Invariants.{Fits}
 use Rattle.engine.proofs.Invariants.{sound_at, parked_at, fits_in}
 use Rattle.engine.proofs.sound.Engine.resume.Goals as goal
 

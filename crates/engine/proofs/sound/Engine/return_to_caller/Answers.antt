@@ -1,12 +1,10 @@
 use Rattle.std.proofs.Common.{◌≡◌, ◌≤◌, true, length, sym, ap, ◌∙◌, subst}
-use Rattle.context.specs.declared.record.ContextRecord.{ContextRecord}
 use Rattle.context.specs.Scenes.{seen}
-use Rattle.context.specs.Sound.{Sound, Closed, Stored}
+use Rattle.context.specs.Sound.{Sound}
 use Rattle.context.specs.Returns.{back_to, return_base}
 use Rattle.context.proofs.SoundReturns.{return_sound, back_status}
 use Rattle.frame.specs.Markers.{lawful_word}
 use Rattle.engine.specs.Invariants.{is_idle}
-use Rattle.engine.specs.Invariants.{is_closed, is_flushed, is_current_entry, Fits}
 use Rattle.engine.proofs.Invariants.{driven_in, sound_at, recount, fits_next}
 use Rattle.engine.proofs.sound.Engine.return_to_caller.Goals as goal
 

@@ -1,11 +1,7 @@
-use Rattle.std.proofs.Common.{◌≡◌, ◌≤◌, true, length, sym, refl, ap, ◌∙◌, subst}
-use Rattle.context.specs.declared.record.ContextRecord.{ContextRecord}
-use Rattle.context.specs.Scenes.{seen}
-use Rattle.context.specs.Sound.{Sound, Closed, Stored}
+use Rattle.std.proofs.Common.{◌≡◌, refl, ap, ◌∙◌}
 use Rattle.context.specs.Frames.{rotated_frame}
 use Rattle.context.proofs.SoundFrames.{rotated_sound}
 use Rattle.engine.specs.Invariants.{is_idle}
-use Rattle.engine.specs.Invariants.{is_closed, is_flushed, is_current_entry, Fits}
 use Rattle.engine.proofs.Invariants.{driven_in, sound_at, fits_next}
 use Rattle.engine.proofs.sound.Engine.rotate.Goals as goal
 

@@ -1,11 +1,7 @@
-use Rattle.std.proofs.Common.{◌≡◌, ◌≤◌, true, length, sym, ap, ◌∙◌, subst}
-use Rattle.context.specs.declared.record.ContextRecord.{ContextRecord}
-use Rattle.context.specs.Scenes.{seen}
-use Rattle.context.specs.Sound.{Sound, Closed, Stored}
+use Rattle.std.proofs.Common.{◌≡◌, ap, ◌∙◌}
 use Rattle.context.specs.Frames.{previous_set}
 use Rattle.context.proofs.SoundFrames.{previous_sound, previous_status}
 use Rattle.engine.specs.Invariants.{is_idle}
-use Rattle.engine.specs.Invariants.{is_closed, is_flushed, is_current_entry, Fits}
 use Rattle.engine.proofs.Invariants.{driven_in, sound_at, fits_next}
 use Rattle.engine.proofs.sound.Engine.set_previous.Goals as goal
 

@@ -1,8 +1,6 @@
-use Rattle.std.proofs.Common.{◌≡◌, true, length, Result, refl, ◌∙◌, rules}
+use Rattle.std.proofs.Common.{◌≡◌, true, length, refl, ◌∙◌, rules}
 use Rattle.std.proofs.lemmas.Bool.{and_from, eq-eqb}
-use Rattle.context.specs.declared.refusals.Refusal.{Refusal}
-use Rattle.engine.specs.declared.instructions.Answer.{Answer}
-use Rattle.engine.specs.Hosts.{Host, hosted}
+use Rattle.engine.specs.Hosts.{hosted}
 use Rattle.engine.specs.Rules.{in_range}
 use Rattle.engine.specs.Steps.{same_host, step_answer, step_after}
 use Rattle.engine.proofs.Bounds.{step_deep, step_words}
