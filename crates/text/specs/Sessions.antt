@@ -1,5 +1,5 @@
 -- Whole sessions: the outcome of each line, and what the session leaves.
-use Rattle.std.specs.Prelude.{◌≡◌, ℕ, ◌+◌, Bool, true, false, cond, ◌⊎◌, List, [], ◌∷◌, ◌++◌, length, Ok, Err, Result}
+use Rattle.std.specs.Prelude.{◌≡◌, ℕ, ◌+◌, cond, ◌⊎◌, List, [], ◌∷◌, ◌++◌, length, Ok, Err, Result}
 use Rattle.register.specs.declared.Slot.{Slot}
 use Rattle.store.specs.Meaning.{Meaning}
 use Rattle.context.specs.declared.refusals.Refusal.{Refusal}
@@ -12,7 +12,6 @@ use Rattle.text.specs.Lines.{lines_of}
 use Rattle.engine.specs.Making.{new_machine}
 use Rattle.engine.specs.Steps.{step_answer, step_after}
 use Rattle.text.specs.declared.session.Outcome.{Outcome}
-use Rattle.text.specs.declared.session.Outcome.TheVariants.{Granted, Refused}
 use Rattle.text.specs.declared.session.RunFault.{RunFault}
 use Rattle.text.specs.Spelling.{spelling, Operands64, Unreadable}
 use Rattle.text.specs.Outcomes.{fault_at, outcome_of, printed, is_granted}

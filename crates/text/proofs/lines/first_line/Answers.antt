@@ -1,4 +1,4 @@
-use Rattle.std.proofs.Common.{◌+◌, ◌-◌, length, take, drop, arith, rules}
+use Rattle.std.proofs.Common.{◌+◌, ◌-◌, length, take, drop, rules}
 use Rattle.text.proofs.Ends.{first_ended, first_only, lines_first, rejoins}
 use Rattle.text.proofs.lines.first_line.Goals as goal
 

@@ -1,5 +1,5 @@
 use Rattle.std.proofs.Common.{◌≡◌, ◌+◌, ◌-◌, ◌*◌, true, false, length, get_or, take, drop, sym, ap, ◌∙◌, arith, ltb-false, ltb-true}
-use Rattle.text.specs.Numbers.{worth, after_digits, begins_with_digit}
+use Rattle.text.specs.Numbers.{worth, begins_with_digit}
 use Rattle.text.proofs.Decimals.{begins, begins_not, worth_step, after_step, worth_stop, after_stop, worth_grows}
 use Rattle.text.proofs.numbers.digits.Goals as goal
 use Rattle.text.proofs.numbers.digits.Goals.{in_default, in_default-2, in_default-3}

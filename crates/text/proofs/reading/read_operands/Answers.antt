@@ -1,4 +1,4 @@
-use Rattle.std.proofs.Common.{[], ◌∷◌, rules}
+use Rattle.std.proofs.Common.{[], rules}
 use Rattle.text.proofs.Operands.{listed_end, listed_step, listed_stop}
 use Rattle.text.proofs.reading.read_operands.Goals as goal
 

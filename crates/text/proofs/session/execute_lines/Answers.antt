@@ -1,4 +1,4 @@
-use Rattle.std.proofs.Common.{◌≡◌, ◌+◌, ◌<◌, ◌≤◌, cond, [], ◌∷◌, ◌++◌, length, is_ok, vec_items, sym, ap, ◌∙◌, arith, rules}
+use Rattle.std.proofs.Common.{◌≡◌, ◌+◌, ◌<◌, ◌≤◌, cond, [], ◌∷◌, ◌++◌, length, is_ok, vec_items, ap, ◌∙◌, arith, rules}
 use Rattle.engine.specs.Hosts.{hosted}
 use Rattle.text.specs.Lines.{lines_of}
 use Rattle.text.proofs.SessionRuns.{runs_more, runs_all}

@@ -1,5 +1,4 @@
-use Rattle.std.proofs.Common.{◌≡◌, ◌+◌, ◌≤◌, arith}
-use Rattle.text.specs.Lines.{end_bytes}
+use Rattle.std.proofs.Common.{arith}
 use Rattle.text.proofs.Ends.{ends_done, ends_here, ends_not, lines_few}
 use Rattle.text.proofs.session.lines_at_most.Goals as goal
 use Rattle.text.proofs.session.lines_at_most.Goals.{then-b-eq10, else-b-eq10}

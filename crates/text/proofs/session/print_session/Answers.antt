@@ -1,9 +1,8 @@
-use Rattle.std.proofs.Common.{◌≡◌, ◌+◌, ◌<◌, ◌≤◌, cond, not, [], ◌++◌, length, get_or, drop, is_ok, vec_items, sym, refl, ap, ◌∙◌, append_assoc, append-nil, arith, rules}
+use Rattle.std.proofs.Common.{◌≡◌, ◌<◌, cond, not, [], ◌++◌, length, get_or, drop, is_ok, vec_items, sym, refl, ap, ◌∙◌, append-nil, arith}
 use Rattle.std.proofs.lemmas.List.{drop_all}
 use Rattle.engine.specs.declared.instructions.Answer.TheVariants.{Done}
 use Rattle.text.specs.declared.session.Outcome.TheVariants.{Granted}
 use Rattle.text.specs.Outcomes.{is_granted}
-use Rattle.text.specs.Printed.{printed_end}
 use Rattle.text.specs.Sessions.{printed_lines, granted_in, refused_in}
 use Rattle.text.proofs.SessionRuns.{printed_more, granted_more, refused_more, flipped, at_most_one, printed_all_lem}
 use Rattle.text.proofs.session.print_session.Goals as goal
