@@ -3,7 +3,7 @@ use Rattle.std.proofs.Common.{◌≡◌, ℕ, ◌+◌, ◌-◌, ◌<◌, ◌≤�
 use Rattle.std.proofs.ByRecursion.{All-from_get_or}
 use Rattle.std.proofs.lemmas.List.{at_drop_all, at_drop_more, drop_all, drop_more, get_or-take, length-take-le, take-append-drop, take_rest}
 use Rattle.std.proofs.lemmas.Bool.{cond-false, cond-true, eq-eqb, eqb-true, eqb-false, ne_eqb}
-use Rattle.std.specs.List.{AllByRecursion as All}
+use Rattle.std.specs.List.{AllByRecursion}
 use Rattle.text.specs.Lines.{before, lines_of, ended, closed, end_bytes, OneLine, FirstLine, Rejoined}
 
 lines_split : (l t : List ℕ) → OneLine l → lines_of (l ++ (10 ∷ t)) ≡ l ∷ lines_of t
@@ -67,11 +67,11 @@ closes (b ∷ c ∷ bs) = go (eqb b 10) refl (closes (c ∷ bs))
     go true e h = ap (λ x. 10 ∷ x) h ∙ ap (λ x. x ∷ closed (c ∷ bs)) (sym (eqb-true b 10 e))
     go false e h = ended_before b (lines_of (c ∷ bs)) (lines_some c bs) ∙ ap (λ x. b ∷ x) h
 
-one_lines : (s : List ℕ) → All OneLine (lines_of s)
+one_lines : (s : List ℕ) → AllByRecursion OneLine (lines_of s)
 one_lines [] = tt
 one_lines (b ∷ bs) = go (eqb b 10) refl (lines_of bs) (one_lines bs)
   where
-    go : (v : Bool) → eqb b 10 ≡ v → (ls : List (List ℕ)) → All OneLine ls → All OneLine (cond v ([] ∷ ls) (before b ls))
+    go : (v : Bool) → eqb b 10 ≡ v → (ls : List (List ℕ)) → AllByRecursion OneLine ls → AllByRecursion OneLine (cond v ([] ∷ ls) (before b ls))
     go true e ls h = (tt, h)
     go false e [] h = ((eqb-false b 10 e, tt), tt)
     go false e (l ∷ ls) h = ((eqb-false b 10 e, h.0), h.1)

@@ -1,6 +1,6 @@
 -- The lines of an input: byte 10 ends a line, and the last may lack it. Assumes nothing.
 use Rattle.std.specs.Prelude.{◌≡◌, ℕ, ◌+◌, cond, ◌⊎◌, List, [], ◌∷◌, ◌++◌, ◌==◌, ◌≢◌}
-use Rattle.std.specs.List.{AllByRecursion as All}
+use Rattle.std.specs.List.{AllByRecursion}
 
 -- a byte before the first line of those that follow
 abbrev pub before : ℕ → List (List ℕ) → List (List ℕ)
@@ -30,7 +30,7 @@ end_bytes (b ∷ bs) = cond (b == 10) (end_bytes bs + 1) (end_bytes bs)
 
 -- no end byte
 abbrev pub OneLine : List ℕ → Type 0
-OneLine l = All (λ b. b ≢ 10) l
+OneLine l = AllByRecursion (λ b. b ≢ 10) l
 
 -- l is the first line of s, and t what follows its end byte
 abbrev pub FirstLine : List ℕ → List ℕ → List ℕ → Type 0
@@ -38,4 +38,4 @@ FirstLine s l t = OneLine l × ((s ≡ l ++ (10 ∷ t)) ⊎ ((s ≡ l) × (t ≡
 
 -- the lines of s, joined by end bytes, are s again
 abbrev pub Rejoined : List ℕ → Type 0
-Rejoined s = (ended (lines_of s) ≡ closed s) × All OneLine (lines_of s)
+Rejoined s = (ended (lines_of s) ≡ closed s) × AllByRecursion OneLine (lines_of s)

@@ -2,7 +2,7 @@
 use Rattle.std.specs.Prelude.{◌≡◌, ℕ, ◌+◌, ◌-◌, ◌*◌, ◌^◌, ◌<◌, Bool, true, false, cond, not, ◌&&◌, List, [], ◌∷◌, ◌++◌, length, take, drop, Some, None, decimal, Option, ◌==◌, ◌≢◌, nat_lt, slice_index}
 use Rattle.std.specs.Borrow.{Bor}
 use Rattle.std.specs.Char.{is_ascii_digit}
-use Rattle.std.specs.List.{AllByRecursion as All}
+use Rattle.std.specs.List.{AllByRecursion}
 
 -- for each number a space and its decimal digits
 abbrev pub spaced : List ℕ → List ℕ
@@ -11,7 +11,7 @@ spaced (n ∷ ns) = 32 ∷ (decimal n ++ spaced ns)
 
 -- each is below 2 ^ 64
 abbrev pub Words : List ℕ → Type 0
-Words ns = All (λ n. n < 2 ^ 64) ns
+Words ns = AllByRecursion (λ n. n < 2 ^ 64) ns
 
 abbrev pub begins_with_digit : List ℕ → Bool
 begins_with_digit [] = false
