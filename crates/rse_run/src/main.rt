@@ -4,10 +4,9 @@
 
 use anyhow::anyhow;
 use register::{Slot, Word};
-use std::alloc::AllocError;
 use std::io;
 use std::io::{Read, Write};
-use store::{PagedStore, Store};
+use store::PagedStore;
 use text::run_session;
 
 // Bytes of a session that are read; what follows is not executed.
