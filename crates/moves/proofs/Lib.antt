@@ -1,5 +1,4 @@
 pub mod Asked
-pub mod FarFills
 pub mod Refills
 pub mod RoundTrips
 pub mod Runs

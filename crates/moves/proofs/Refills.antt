@@ -81,14 +81,14 @@ module _ {C : Type 0} (nought : C) (content : ℕ → C) (m : Meaning) (context 
       (λ o. rw o (none c p slots))
 
   pub only_reads : (n p : ℕ) (c : Cursor) (slots : List (Slot C)) → OnlyReads c (Run n p c slots).cursor
-  only_reads zero p c slots = record { start = refl; bspstore = refl; rnat = refl; writes = refl }
+  only_reads zero p c slots = record { context = refl; start = refl; bspstore = refl; rnat = refl; writes = refl }
   only_reads (suc n) p c slots =
       let d = read_more (fill_reads c p) c in
       let ring = register_put slots p (filled content c m p) in
       cond_both (fill_open c m p) (Run n (p + 1) d ring) (record { cursor = c; file = slots; answer = fill_answer m context c p })
       (λ e. OnlyReads c e.cursor)
-      (λ o. let r = only_reads n (p + 1) d ring in record { start = r.start; bspstore = r.bspstore; rnat = r.rnat; writes = r.writes })
-      (λ o. record { start = refl; bspstore = refl; rnat = refl; writes = refl })
+      (λ o. let r = only_reads n (p + 1) d ring in record { context = r.context; start = r.start; bspstore = r.bspstore; rnat = r.rnat; writes = r.writes })
+      (λ o. record { context = refl; start = refl; bspstore = refl; rnat = refl; writes = refl })
 
   -- counts do not matter to asking
   asked-read : (k : ℕ) (c : Cursor) (n p : ℕ) → fills_asked m context (read_more k c) n p ≡ fills_asked m context c n p

@@ -221,14 +221,15 @@ module _ {C : Type 0} (nought : C) (image : C → ℕ) (content : ℕ → C) (re
         trip context end c m (record { cursor = d; file = slots; answer = r }) n
         (ap (λ y. record { cursor = d; file = slots; answer = y }) er ∙ ap (refill_after nought content context (run_high c end - run_low c end) (run_low c end) slots d n) (sym e) ∙ ended) words-at
 
-    pub granted_trip : (low high : ℕ) (r : MoveResult) (e : Cursor) (file : List (Slot C)) → s ≡ Ok tt → low ≡ run_low c end → high ≡ run_high c end
-        → r ≡ (refill_run nought content n context (high - low) low d slots).answer
-        → file ≡ (refill_run nought content n context (high - low) low d slots).file
-        → e ≡ (refill_run nought content n context (high - low) low d slots).cursor
+    pub granted_trip : (owner low high : ℕ) (r : MoveResult) (e : Cursor) (file : List (Slot C)) → owner ≡ context → s ≡ Ok tt → low ≡ run_low c end → high ≡ run_high c end
+        → r ≡ (refill_run nought content n owner (high - low) low d slots).answer
+        → file ≡ (refill_run nought content n owner (high - low) low d slots).file
+        → e ≡ (refill_run nought content n owner (high - low) low d slots).cursor
         → Trip context end c m r e n file
-    granted_trip low high r e file ok el eh er ef ec =
-        let at : refill_run nought content n context (high - low) low d slots ≡ round_trip nought image content context end c m slots =
-        ap (λ y. refill_run nought content n context (y - low) low d slots) eh
+    granted_trip owner low high r e file ew ok el eh er ef ec =
+        let at : refill_run nought content n owner (high - low) low d slots ≡ round_trip nought image content context end c m slots =
+        ap (λ y. refill_run nought content n y (high - low) low d slots) ew
+        ∙ ap (λ y. refill_run nought content n context (y - low) low d slots) eh
         ∙ ap (λ y. refill_run nought content n context (run_high c end - y) y d slots) el
         ∙ ap (refill_after nought content context (run_high c end - run_low c end) (run_low c end) slots d n) (sym ok) ∙ ended
         in

@@ -41,6 +41,11 @@ module _ {C : Type 0} (nought : C) (image : C → ℕ) (slots : List (Slot C)) (
       let e : end - word ≡ suc (end - (word + 1)) = omega arith in
       rw (e, o) refl
 
+-- a fill is of the same context
+pub fill_context : (b : Bool) (k : ℕ) (c d : Cursor) → d ≡ cond b (read_more k c) c → d.context ≡ c.context
+fill_context true k c d e = ap (λ x. x.context) e
+fill_context false k c d e = ap (λ x. x.context) e
+
 module _ {C : Type 0} (content : ℕ → C) (m : Meaning) (context : ℕ) where
   pub fill_more : (high p : ℕ) (c c' : Cursor) (slots slots' : List (Slot C)) → p < high → fill_open c m p ≡ true
       → c' ≡ cond (fill_open c m p) (read_more (fill_reads c p) c) c → slots' ≡ cond (fill_open c m p) (register_put slots p (filled content c m p)) slots

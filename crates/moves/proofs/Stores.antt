@@ -169,6 +169,24 @@ module _ {C : Type 0} (nought : C) (image : C → ℕ) (slots : List (Slot C)) (
   past-start c =
       cond_both (is_collection c.bspstore) (past_collection c) (past_register (register_of nought slots c c.bspstore).nat c) (λ d. d.start ≡ c.start) (λ _. refl) (λ _. refl)
 
+  past_context : (c : Cursor) → (spill_past nought slots c).context ≡ c.context
+  past_context c =
+      cond_both (is_collection c.bspstore) (past_collection c) (past_register (register_of nought slots c c.bspstore).nat c) (λ d. d.context ≡ c.context) (λ _. refl) (λ _. refl)
+
+  -- a step is of the same context
+  pub step_context : (b : Bool) (c d : Cursor) → d ≡ cond b (spill_past nought slots c) c → d.context ≡ c.context
+  step_context true c d e = ap (λ x. x.context) e ∙ past_context c
+  step_context false c d e = ap (λ x. x.context) e
+
+  run_context : (n : ℕ) (c : Cursor) (m : Meaning) → (spill_run nought image slots context n c m).cursor.context ≡ c.context
+  run_context zero c m = refl
+  run_context (suc n) c m =
+      let b = c.bspstore in
+      let d = spill_past nought slots c in
+      let v = spill_value nought image slots c in
+      cond_both (is_open m b) (spill_run nought image slots context n d (written m b v)) (record { cursor = c; meaning = m; answer = spill_answer m context c })
+      (λ e. e.cursor.context ≡ c.context) (λ o. run_context n d (written m b v) ∙ past_context c) (λ o. refl)
+
   -- where the run stops
   pub stops : (n : ℕ) (c : Cursor) (m : Meaning)
       → (spill_run nought image slots context n c m).cursor.bspstore ≡ spills_to (spill_run nought image slots context n c m).answer (c.bspstore + n)
@@ -218,6 +236,7 @@ module _ {C : Type 0} (nought : C) (image : C → ℕ) (slots : List (Slot C)) (
         stored = λ small.
             subst (λ x. Spilled (image_at nought image slots c) (nat_at nought slots c) c m x after) (sym ed)
             (subst (λ x. Spilled (image_at nought image slots c) (nat_at nought slots c) c m run.cursor x) (sym ea) (stored n c m small));
+        owner = ap (λ x. x.context) ed ∙ run_context n c m;
         stops = λ le.
             let e : b + n ≡ end = omega arith in
             ap (λ x. x.bspstore) ed ∙ stops n c m ∙ ap (spills_to run.answer) e ∙ ap (λ x. spills_to x end) (sym er);

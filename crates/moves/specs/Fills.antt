@@ -5,7 +5,7 @@ use Rattle.address.specs.NatBits.{nat_bit}
 use Rattle.register.specs.Slots.{register_put}
 use Rattle.register.specs.declared.Slot.{Slot}
 use Rattle.store.specs.Meaning.{Meaning}
-use Rattle.store.specs.Rules.{is_open, write_of}
+use Rattle.store.specs.Rules.{is_open, refusal_of, read_of}
 use Rattle.store.specs.declared.StoreFault.{StoreFault}
 use Rattle.moves.specs.declared.state.Cursor.{Cursor}
 use Rattle.moves.specs.declared.state.Movement.TheVariants.{Fill}
@@ -19,14 +19,6 @@ word_of c p = address_of c.start p
 abbrev pub is_near : Cursor → ℕ → Bool
 is_near c p = group_of (word_of c p) == group_of c.bspstore
 
--- a register's word and its collection are open
-abbrev pub far_open : Meaning → ℕ → Bool
-far_open m w = is_open m w && is_open m (collection_of w)
-
--- what a read of both answers
-abbrev pub far_answer : Meaning → ℕ → Result (Unit {0}) StoreFault
-far_answer m w = cond (is_open m w) (write_of m (collection_of w)) (write_of m w)
-
 -- the collection of a register's word
 abbrev pub far_bits : Meaning → ℕ → ℕ
 far_bits m w = slice_index m.words (collection_of w)
@@ -34,6 +26,10 @@ far_bits m w = slice_index m.words (collection_of w)
 -- the bits that hold its NaT bit: RNAT, or its group's collection
 abbrev pub nat_source : Cursor → Meaning → ℕ → ℕ
 nat_source c m p = cond (is_near c p) c.rnat (far_bits m (word_of c p))
+
+-- those bits, where they can be read
+abbrev pub nats_read : Cursor → Meaning → ℕ → Result ℕ StoreFault
+nats_read c m p = cond (is_near c p) (Ok c.rnat) (read_of m (collection_of (word_of c p)))
 
 -- every word that its fill reads is open
 abbrev pub fill_open : Cursor → Meaning → ℕ → Bool
@@ -43,6 +39,10 @@ fill_open c m p = is_open m (word_of c p) && (is_near c p || is_open m (collecti
 abbrev pub fill_shut : Cursor → Meaning → ℕ → ℕ
 fill_shut c m p = cond (is_open m (word_of c p)) (collection_of (word_of c p)) (word_of c p)
 
+-- what the store answers a fill: a fault at that word, or nothing
+abbrev pub fill_fault : Cursor → Meaning → ℕ → Result (Unit {0}) StoreFault
+fill_fault c m p = cond (fill_open c m p) (Ok tt) (Err (refusal_of m (fill_shut c m p)))
+
 abbrev pub fill_answer : Meaning → ℕ → Cursor → ℕ → MoveResult
 fill_answer m context c p = cond (fill_open c m p) (Ok tt) (Err (fault_at m (fill_shut c m p) Fill context p))
 
@@ -51,13 +51,9 @@ abbrev pub fill_reads : Cursor → ℕ → ℕ
 fill_reads c p = cond (is_near c p) 1 2
 
 module _ {C : Type 0} where
-  -- the register that a fill brings, its NaT bit taken from the given bits
-  abbrev pub filled_from : (ℕ → C) → ℕ → Cursor → Meaning → ℕ → Slot C
-  filled_from content bits c m p = record { content = content (slice_index m.words (word_of c p)); nat = nat_bit bits (word_of c p % 64) }
-
   -- the register that a fill brings
   abbrev pub filled : (ℕ → C) → Cursor → Meaning → ℕ → Slot C
-  filled content c m p = filled_from content (nat_source c m p) c m p
+  filled content c m p = record { content = content (slice_index m.words (word_of c p)); nat = nat_bit (nat_source c m p) (word_of c p % 64) }
 
 -- how fills end: where the moves stand, the file, and the answer
 pub record FillEnd (C : Type 0) : Type 0 where

@@ -22,7 +22,7 @@ lower_answer m context c w =
 
 -- RNAT keeps its bits below w, or those bits come from the collection
 abbrev pub lowered_to : ℕ → ℕ → Cursor → Cursor
-lowered_to w bits c = record { start = c.start; bspstore = w; rnat = nats_below bits (w % 64); counts = c.counts }
+lowered_to w bits c = record { context = c.context; start = c.start; bspstore = w; rnat = nats_below bits (w % 64); counts = c.counts }
 
 -- where the moves stand after a lowering to w
 abbrev pub lowered : Meaning → Cursor → ℕ → Cursor

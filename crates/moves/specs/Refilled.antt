@@ -20,6 +20,7 @@ pub record Refilled {C : Type 0} (nought : C) (content : ℕ → C) (c : Cursor)
 
 -- nothing but the count of words read has changed
 pub record OnlyReads (from to : Cursor) : Type 0 where
+  pub context : to.context ≡ from.context
   pub start : to.start ≡ from.start
   pub bspstore : to.bspstore ≡ from.bspstore
   pub rnat : to.rnat ≡ from.rnat

@@ -16,16 +16,16 @@ stored_by c = positions_below c.start c.bspstore
 
 -- past a word, with the new RNAT
 abbrev pub past_word : ℕ → Cursor → Cursor
-past_word rnat c = record { start = c.start; bspstore = c.bspstore + 1; rnat = rnat; counts = wrote_one c.counts }
+past_word rnat c = record { context = c.context; start = c.start; bspstore = c.bspstore + 1; rnat = rnat; counts = wrote_one c.counts }
 
 -- past a collection, RNAT is clear
 abbrev pub past_collection : Cursor → Cursor
-past_collection c = record { start = c.start; bspstore = c.bspstore + 1; rnat = 0; counts = wrote_one c.counts }
+past_collection c = record { context = c.context; start = c.start; bspstore = c.bspstore + 1; rnat = 0; counts = wrote_one c.counts }
 
 -- past a register, RNAT has its NaT bit
 abbrev pub past_register : Bool → Cursor → Cursor
 past_register nat c =
-    record { start = c.start; bspstore = c.bspstore + 1; rnat = with_nat c.rnat (c.bspstore % 64) nat; counts = wrote_one c.counts }
+    record { context = c.context; start = c.start; bspstore = c.bspstore + 1; rnat = with_nat c.rnat (c.bspstore % 64) nat; counts = wrote_one c.counts }
 
 -- a spill that meets a shut word
 abbrev pub spill_answer : Meaning → ℕ → Cursor → MoveResult

@@ -29,7 +29,11 @@ wrote_one c = record { written = counted_up c.written 1; read = c.read }
 -- k words read
 abbrev pub read_more : ℕ → Cursor → Cursor
 read_more k c =
-    record { start = c.start; bspstore = c.bspstore; rnat = c.rnat; counts = record { written = c.counts.written; read = counted_up c.counts.read k } }
+    record { context = c.context; start = c.start; bspstore = c.bspstore; rnat = c.rnat; counts = record { written = c.counts.written; read = counted_up c.counts.read k } }
+
+-- where a move of the cursor's context stands
+abbrev pub place_of : Cursor → Movement → ℕ → Place
+place_of c movement position = record { movement = movement; context = c.context; position = position }
 
 -- the store's fault at word w, met by a move of a context at a position
 abbrev pub fault_at : Meaning → ℕ → Movement → ℕ → ℕ → MoveFault

@@ -52,6 +52,7 @@ spills_to (Err f) end = f.fault.word
 pub record SpillShows {C : Type 0} (nought : C) (image : C → ℕ) (slots : List (Slot C)) (context end : ℕ) (from : Cursor) (before : Meaning)
     (answer : MoveResult) (to : Cursor) (after : Meaning) : Type 0 where
   pub stored : from.rnat < 2 ^ (from.bspstore % 64) → Spilled (image_at nought image slots from) (nat_at nought slots from) from before to after
+  pub owner : to.context ≡ from.context
   pub stops : from.bspstore ≤ end → to.bspstore ≡ spills_to answer end
   pub told : Told before Spill context (SpillNeeds from.start from.bspstore end) answer
   pub lowest : Lowest before (SpillNeeds from.start from.bspstore end) answer

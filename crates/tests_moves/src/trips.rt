@@ -1,6 +1,6 @@
 // A region from word 64 on; every fifth position has its NaT bit set.
 use address::nats_below;
-use moves::{Counts, Cursor, MoveFault, Movement, Place, spill_and_refill, spill_until};
+use moves::{Counts, Cursor, MoveFault, Movement, Place};
 use register::{Kind, Pair, Slot, Word, put_register, register_at};
 use std::process::Abort;
 use store::{Cause, FlatStore, Store, StoreFault};
@@ -27,8 +27,9 @@ fn check_word<S: Store>(rt: &impl Abort, store: &S, word: u64, value: u64, place
     assert_eq!(rt; store.read(word).unwrap_or(!value), value, "{place}");
 }
 
-fn cursor_at(word: u64) -> Cursor {
+fn cursor_at(context: u64, word: u64) -> Cursor {
     Cursor {
+        context,
         start: 64,
         bspstore: word,
         rnat: nats_below(group_nats(1), word),
@@ -49,9 +50,12 @@ fn trip<K: Kind>(rt: &impl Abort, slots: &mut [Slot<K>], offset: u8) {
     }
     let mut memory = [0u64; 512];
     let mut store = FlatStore::new(&mut memory);
-    let mut at = cursor_at(low + 64);
+    let mut at = cursor_at(0, low + 64);
     let end = low + 166;
-    assert!(rt; spill_and_refill(&mut at, slots, &mut store, u32::from(offset) + 166, 0).is_ok());
+    assert!(rt;
+        at.spill_and_refill(slots, &mut store, u32::from(offset) + 166)
+            .is_ok()
+    );
     assert_eq!(rt; at.bspstore, end);
     assert_eq!(rt; at.rnat, nats_below(group_nats(end / 64), end));
     assert_eq!(rt; at.counts.written, 102);
@@ -102,22 +106,20 @@ fn stops_at_the_end(rt: HostRuntime) {
     }; 96];
     let mut memory = [0u64; 128];
     let mut store = FlatStore::new(&mut memory);
-    let mut at = cursor_at(120);
-    assert!(rt;
-        matches!(
-            spill_until(&mut at, &slots, &mut store, 140, 3),
-            Err(MoveFault {
-                fault: StoreFault {
-                    cause: Cause::Beyond,
-                    word: 128
-                },
-                place: Place {
-                    movement: Movement::Spill,
-                    context: 3,
-                    position: 63
-                }
-            })
-        )
+    let mut at = cursor_at(3, 120);
+    assert_eq!(rt;
+        at.spill_until(&slots, &mut store, 140),
+        Err(MoveFault {
+            fault: StoreFault {
+                cause: Cause::Beyond,
+                word: 128
+            },
+            place: Place {
+                movement: Movement::Spill,
+                context: 3,
+                position: 63
+            }
+        })
     );
     assert_eq!(rt; at.bspstore, 128);
     assert_eq!(rt; at.rnat, 0);
