@@ -3,7 +3,7 @@ use Rattle.std.proofs.Common.{◌≡◌, ℕ, ◌<◌, ◌≤◌, min, Bool, tru
 use Rattle.address.specs.Addresses.{address_of}
 use Rattle.moves.specs.Steps.{MoveResult}
 use Rattle.context.specs.Records.{stored_of}
-use Rattle.context.specs.Scenes.{Scene, if_moved, spilled, settled, with_file}
+use Rattle.context.specs.Scenes.{Scene, cursor_in, if_moved, spilled, settled, with_file}
 use Rattle.context.specs.Spilling.{floor_of, run_to, spill_end_of, fills_to}
 use Rattle.context.specs.Returns.{room_asked, refill_asked, refill_moved, refill_cursor}
 use Rattle.context.specs.Returns.{room_answer, room_after, refill_answer, refill_after, frame_answer, frame_after}
@@ -52,7 +52,7 @@ module _ {C : Type 0} (nought : C) (image : C → ℕ) (content : ℕ → C) (s 
   refill-size low high word =
       let file = (fills_to content s low high).file in
       let through = with_file (settled s (refill_cursor content s low high word)) file in
-      by_move (refill_asked s low high word) (if_moved (refill_moved content s low high word) through (with_file s file)) s s.stack.size
+      by_move (refill_asked s.meaning (cursor_in s) low high word) (if_moved (refill_moved content s low high word) through (with_file s file)) s s.stack.size
       (by_move (refill_moved content s low high word) through (with_file s file) s.stack.size refl refl)
       refl
 

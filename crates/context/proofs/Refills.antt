@@ -7,7 +7,7 @@ use Rattle.moves.specs.declared.state.Cursor.{Cursor}
 use Rattle.moves.specs.declared.state.Counts.{Counts}
 use Rattle.context.specs.declared.record.ContextRecord.{ContextRecord}
 use Rattle.context.specs.Records.{with_moves}
-use Rattle.context.specs.Scenes.{Scene}
+use Rattle.context.specs.Scenes.{Scene, cursor_in}
 use Rattle.context.specs.Spilling.{fills_to}
 use Rattle.context.specs.Returns.{refill_asked, refill_answer, refill_after}
 
@@ -19,7 +19,7 @@ open_by true false e h = let z : ◌≡◌ {A = ℕ} 0 1 = cc in absurd (omega (
 open_by false open? e h = refl
 
 module _ {C : Type 0} (content : ℕ → C) (s : Scene C) (low high word : ℕ) where
-  pub refill_answer_lem : (lower : MoveResult) (c : Cursor) → refill_asked s low high word ≡ Ok tt → (fills_to content s low high).answer ≡ Ok tt
+  pub refill_answer_lem : (lower : MoveResult) (c : Cursor) → refill_asked s.meaning (cursor_in s) low high word ≡ Ok tt → (fills_to content s low high).answer ≡ Ok tt
       → c ≡ (fills_to content s low high).cursor → lower_answer s.meaning s.number c word ≡ Ok tt
       → Ok tt ≡ refill_answer content s low high word
   unfolding refill_answer
@@ -27,7 +27,7 @@ module _ {C : Type 0} (content : ℕ → C) (s : Scene C) (low high word : ℕ) 
       rw (asked, fills, ← at, went) refl
 
   pub refill_after_lem : (c d : Cursor) (stack : ContextRecord) (counts : Counts) (number : ℕ) (file : List (Slot C))
-      → refill_asked s low high word ≡ Ok tt → (fills_to content s low high).answer ≡ Ok tt
+      → refill_asked s.meaning (cursor_in s) low high word ≡ Ok tt → (fills_to content s low high).answer ≡ Ok tt
       → c ≡ (fills_to content s low high).cursor → lower_answer s.meaning s.number c word ≡ Ok tt
       → d ≡ cond (lower_open c s.meaning word) (lowered s.meaning c word) c
       → stack ≡ with_moves s.stack d → counts ≡ d.counts → number ≡ s.number → file ≡ (fills_to content s low high).file

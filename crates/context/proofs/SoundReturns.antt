@@ -55,7 +55,7 @@ module _ {C : Type 0} (content : ℕ → C) (s : Scene C) (low high word : ℕ) 
   refill_cases P through stopped =
       let c = refill_cursor content s low high word in
       let file = (fills_to content s low high).file in
-      both_cases P (refill_asked s low high word) (refill_moved content s low high word) (with_file (settled s c) file) (with_file s file) s
+      both_cases P (refill_asked s.meaning (cursor_in s) low high word) (refill_moved content s low high word) (with_file (settled s c) file) (with_file s file) s
       (through c (lowered_at (lower_reads (fills_to content s low high).cursor word) _ _ word refl refl) (lowered_bits s.meaning (fills_to content s low high).cursor word))
       stopped stopped
 

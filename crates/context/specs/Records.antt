@@ -19,9 +19,9 @@ stored_of r = positions_below r.start r.bspstore
 abbrev pub top_of : ContextRecord → ℕ
 top_of r = r.base + sof_of r.marker
 
--- where the moves stand
-abbrev pub cursor_of : ContextRecord → Counts → Cursor
-cursor_of r counts = record { start = r.start; bspstore = r.bspstore; rnat = r.rnat; counts = counts }
+-- where the moves of the context of this number stand
+abbrev pub cursor_of : ℕ → ContextRecord → Counts → Cursor
+cursor_of number r counts = record { context = number; start = r.start; bspstore = r.bspstore; rnat = r.rnat; counts = counts }
 
 -- another frame
 abbrev pub with_frame : ContextRecord → ℕ → ℕ → ContextRecord

@@ -3,6 +3,7 @@ use Rattle.std.specs.Prelude.{ℕ, ◌+◌, ◌-◌, min, max, cond, Ok, Err, Re
 use Rattle.address.specs.Addresses.{address_of, is_collection, positions_below, capacity_of}
 use Rattle.frame.specs.Markers.{sof_of, sol_of}
 use Rattle.register.specs.Slots.{registers_cleared}
+use Rattle.store.specs.Meaning.{Meaning}
 use Rattle.moves.specs.Steps.{MoveResult}
 use Rattle.moves.specs.Lowers.{lower_answer, lowered}
 use Rattle.moves.specs.Asks.{spills_asked, fills_asked}
@@ -16,6 +17,15 @@ use Rattle.context.specs.Frames.{on_granted, if_granted}
 use Rattle.context.specs.Scenes.{Scene, cursor_in, with_stack, with_file, settled, spilled, moved, if_moved, both}
 use Rattle.context.specs.Spilling.{spill_end_of, run_to, floor_of, fills_to}
 
+-- asking about the word of a lowering comes first where BSPSTORE is lowered to a collection: that word is the lowest
+abbrev pub low_first : Meaning → Cursor → ℕ → MoveResult
+low_first m c word = cond (is_collection word) (lower_answer m c.context c word) (Ok tt)
+
+-- fills of the positions from low to high − 1, then a lowering to word, all asked about first
+abbrev pub refill_asked : Meaning → Cursor → ℕ → ℕ → ℕ → MoveResult
+refill_asked m c low high word =
+    both (low_first m c word) (both (fills_asked m c.context c (high - low) low) (lower_answer m c.context c word))
+
 module _ {C : Type 0} where
   -- spills until all positions below floor are stored, all asked about first
   abbrev pub room_asked : Scene C → ℕ → MoveResult
@@ -28,16 +38,6 @@ module _ {C : Type 0} where
   unfoldable pub room_after : C → (C → ℕ) → Scene C → ℕ → Scene C
   room_after nought image s floor = if_moved (room_asked s floor) (spilled s (run_to nought image s (spill_end_of s.stack floor))) s
 
-  -- asking about the word of a lowering comes first where BSPSTORE is lowered to a collection: that word is the lowest
-  abbrev pub low_first : Scene C → ℕ → MoveResult
-  low_first s word = cond (is_collection word) (lower_answer s.meaning s.number (cursor_in s) word) (Ok tt)
-
-  -- fills of the positions from low to high − 1, then a lowering to word, all asked about first
-  abbrev pub refill_asked : Scene C → ℕ → ℕ → ℕ → MoveResult
-  refill_asked s low high word =
-      both (low_first s word)
-      (both (fills_asked s.meaning s.number (cursor_in s) (high - low) low) (lower_answer s.meaning s.number (cursor_in s) word))
-
   -- the lowering after the fills
   abbrev pub refill_lower : (ℕ → C) → Scene C → ℕ → ℕ → ℕ → MoveResult
   refill_lower content s low high word = lower_answer s.meaning s.number (fills_to content s low high).cursor word
@@ -49,11 +49,11 @@ module _ {C : Type 0} where
   refill_cursor content s low high word = lowered s.meaning (fills_to content s low high).cursor word
 
   unfoldable pub refill_answer : (ℕ → C) → Scene C → ℕ → ℕ → ℕ → MoveResult
-  refill_answer content s low high word = both (refill_asked s low high word) (refill_moved content s low high word)
+  refill_answer content s low high word = both (refill_asked s.meaning (cursor_in s) low high word) (refill_moved content s low high word)
 
   unfoldable pub refill_after : (ℕ → C) → Scene C → ℕ → ℕ → ℕ → Scene C
   refill_after content s low high word =
-      if_moved (refill_asked s low high word)
+      if_moved (refill_asked s.meaning (cursor_in s) low high word)
       (if_moved (refill_moved content s low high word)
       (with_file (settled s (refill_cursor content s low high word)) (fills_to content s low high).file)
       (with_file s (fills_to content s low high).file))

@@ -1,5 +1,5 @@
 -- A context that is driven, with the file and the store under it.
-use Rattle.std.specs.Prelude.{ℕ, List, Ok, Err, Result}
+use Rattle.std.specs.Prelude.{◌≡◌, ℕ, List, Ok, Err, Result}
 use Rattle.register.specs.declared.Slot.{Slot}
 use Rattle.store.specs.Meaning.{Meaning}
 use Rattle.moves.specs.Steps.{MoveResult}
@@ -20,6 +20,12 @@ pub record Scene (C : Type 0) : Type 0 where
   pub file : List (Slot C)
   pub meaning : Meaning
 
+-- the record alone changes, by f
+pub record StackAlone (f : ContextRecord → ContextRecord) (before after : Context) : Type 0 where
+  pub stack : after.stack ≡ f before.stack
+  pub counts : after.counts ≡ before.counts
+  pub number : after.number ≡ before.number
+
 module _ {C : Type 0} where
   -- what a call sees at its entry, and leaves at its exit
   abbrev pub seen : Context → List (Slot C) → Meaning → Scene C
@@ -27,7 +33,7 @@ module _ {C : Type 0} where
 
   -- where the moves stand
   abbrev pub cursor_in : Scene C → Cursor
-  cursor_in s = cursor_of s.stack s.counts
+  cursor_in s = cursor_of s.number s.stack s.counts
 
   -- another record
   abbrev pub with_stack : Scene C → ContextRecord → Scene C

@@ -1,6 +1,8 @@
 -- Instructions that spill: alloc, flush and the early spill; and the early fill.
 use Rattle.std.specs.Prelude.{ℕ, ◌+◌, ◌-◌, max, Bool, cond, ◌&&◌, ◌||◌, length, Ok, Err, Result, ◌==◌, nat_le, nat_lt}
 use Rattle.address.specs.Addresses.{address_of, capacity_of}
+use Rattle.frame.specs.declared.FrameMarker.{FrameMarker}
+use Rattle.frame.specs.Fields.{word_of}
 use Rattle.frame.specs.Markers.{sof_of, sor_of, rotation_of, lawful, word_of_parts}
 use Rattle.register.specs.Slots.{registers_cleared}
 use Rattle.moves.specs.Spills.{SpillEnd, spill_run}
@@ -24,6 +26,11 @@ alloc_marker r sof sol sor =
     (cond (nat_le (r.base + sof) (capacity_of r.size)) (Ok (word_of_parts sof sol sor (rotation_of r.marker))) (Err Top))
     (Err Rotation))
     (Err Marker)
+
+-- the word of the marker that is answered
+abbrev pub worded : Result FrameMarker Refusal → Result ℕ Refusal
+worded (Ok marker) = Ok (word_of marker)
+worded (Err e) = Err e
 
 module _ {C : Type 0} where
   -- spills until BSPSTORE is end

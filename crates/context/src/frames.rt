@@ -1,7 +1,8 @@
 // Instructions on the frame: markers, calls, covers, and the registers of the frame.
-ghost use Rattle.std.specs.Prelude.{◌≡◌, ℕ, ◌+◌, ◌-◌, ◌*◌, ◌/◌, ◌%◌, ◌^◌, ◌<◌, ◌≤◌};
-ghost use Rattle.frame.specs.Fields.{PartsOfWord};
+ghost use Rattle.std.specs.Prelude.{◌≡◌};
+ghost use Rattle.frame.specs.Fields.{word_of, PartsOfWord};
 ghost use Rattle.context.specs.Records.{top_of};
+ghost use Rattle.context.specs.Scenes.{StackAlone};
 ghost use Rattle.context.specs.Frames.{called, covered, rotated_frame, reset_frame, previous_set, previous_answer, position_of};
 ghost use Rattle.context.specs.Frames.{write_file, copy_file, add_file, read_answer, summed, one_register, two_registers, three_registers};
 
@@ -14,21 +15,24 @@ use register::{Kind, Slot, put_register, register_at};
 impl Context {
     // The marker of the frame.
     pub fn marker(&self) -> FrameMarker
-        ensures { PartsOfWord result self.now.stack.marker }
+        ensures word { word_of result ≡ self.now.stack.marker }
+        ensures parts { PartsOfWord result self.now.stack.marker }
     {
         marker_of(self.stack.marker)
     }
 
     // The previous marker, of the frame that a return goes back to.
     pub fn previous_marker(&self) -> FrameMarker
-        ensures { PartsOfWord result self.now.stack.previous }
+        ensures word { word_of result ≡ self.now.stack.previous }
+        ensures parts { PartsOfWord result self.now.stack.previous }
     {
         marker_of(self.stack.previous)
     }
 
     // The marker that the last cover saved.
     pub fn saved_marker(&self) -> FrameMarker
-        ensures { PartsOfWord result self.now.stack.saved }
+        ensures word { word_of result ≡ self.now.stack.saved }
+        ensures parts { PartsOfWord result self.now.stack.saved }
     {
         marker_of(self.stack.saved)
     }
@@ -42,9 +46,7 @@ impl Context {
 
     // Call: the locals go below base, and the rest of the frame is the new frame.
     pub fn call(&mut self)
-        ensures stack { self.new.stack ≡ called self.old.stack }
-        ensures counts { self.new.counts ≡ self.old.counts }
-        ensures number { self.new.number ≡ self.old.number }
+        ensures { StackAlone called self.old self.new }
     {
         let marker = self.marker();
         let outs = marker.sof() - marker.sol();
@@ -55,9 +57,7 @@ impl Context {
 
     // Cover: the whole frame goes below base, its marker is saved, and the frame is empty.
     pub fn cover(&mut self)
-        ensures stack { self.new.stack ≡ covered self.old.stack }
-        ensures counts { self.new.counts ≡ self.old.counts }
-        ensures number { self.new.number ≡ self.old.number }
+        ensures { StackAlone covered self.old self.new }
     {
         let top = self.top();
         self.stack.saved = self.stack.marker;
@@ -67,36 +67,28 @@ impl Context {
 
     // Rotates the rotating registers by one.
     pub fn rotate(&mut self)
-        ensures stack { self.new.stack ≡ rotated_frame self.old.stack }
-        ensures counts { self.new.counts ≡ self.old.counts }
-        ensures number { self.new.number ≡ self.old.number }
+        ensures { StackAlone rotated_frame self.old self.new }
     {
         let mut marker = self.marker();
         marker.rotate();
-        self.stack.marker = marker.word();
+        self.stack.marker = u64::from(marker);
     }
 
     // Sets the rotation to zero.
     pub fn reset_rotation(&mut self)
-        ensures stack { self.new.stack ≡ reset_frame self.old.stack }
-        ensures counts { self.new.counts ≡ self.old.counts }
-        ensures number { self.new.number ≡ self.old.number }
+        ensures { StackAlone reset_frame self.old self.new }
     {
         let mut marker = self.marker();
         marker.reset_rotation();
-        self.stack.marker = marker.word();
+        self.stack.marker = u64::from(marker);
     }
 
     // Sets the previous marker from its word.
     pub fn set_previous(&mut self, word: u64) -> Result<(), Refusal>
         ensures answer { result ≡ previous_answer word }
-        ensures stack { self.new.stack ≡ previous_set self.old.stack word }
-        ensures counts { self.new.counts ≡ self.old.counts }
-        ensures number { self.new.number ≡ self.old.number }
+        ensures after { StackAlone (λ r. previous_set r word) self.old self.new }
     {
-        if FrameMarker::from_word(word).is_none() {
-            return Err(Refusal::Marker);
-        }
+        let _ = FrameMarker::try_from(word)?;
         self.stack.previous = word;
         Ok(())
     }
@@ -105,10 +97,8 @@ impl Context {
     pub fn position(&self, register: u64) -> Result<u64, Refusal>
         ensures { result ≡ position_of self.now.stack register }
     {
-        match self.marker().place(register) {
-            Some(offset) => Ok(u64::from(self.stack.base) + u64::from(offset)),
-            None => Err(Refusal::Register),
-        }
+        let offset = self.marker().place(register).ok_or(Refusal::Register)?;
+        Ok(u64::from(self.stack.base) + u64::from(offset))
     }
 
     // Writes the content of a word, and a NaT bit.
@@ -146,8 +136,7 @@ impl Context {
     {
         let to = self.position(target)?;
         let from = self.position(source)?;
-        let register = register_at(slots, from);
-        put_register(slots, to, register);
+        put_register(slots, to, register_at(slots, from));
         Ok(())
     }
 
@@ -175,8 +164,7 @@ impl Context {
     pub fn read<K: Kind>(&self, slots: &[Slot<K>], register: u64) -> Result<Slot<K>, Refusal>
         ensures { result ≡ read_answer K.zero_content self.now.stack slots.now register }
     {
-        let position = self.position(register)?;
-        Ok(register_at(slots, position))
+        Ok(register_at(slots, self.position(register)?))
     }
 }
 

@@ -1,9 +1,10 @@
 // What each instruction does to one context: the part that the table engine and a directly driven context share.
 #![tactic(auto)]
 
-ghost use Rattle.std.specs.Prelude.{◌≡◌, ℕ, ◌+◌, ◌-◌, ◌*◌, ◌/◌, ◌%◌, ◌^◌, ◌<◌, ◌≤◌, true, false, Some, None};
+ghost use Rattle.std.specs.Prelude.{◌≡◌, true, false, MatchOption};
 ghost use Rattle.frame.specs.Markers.{lawful_word};
-ghost use Rattle.frame.specs.Fields.{PartsOfWord};
+ghost use Rattle.frame.specs.Fields.{word_of, PartsOfWord};
+ghost use Rattle.context.specs.Records.{cursor_of};
 ghost use Rattle.context.specs.Regions.{well_formed, begun};
 
 mod frames;
@@ -15,7 +16,7 @@ mod sound;
 mod spilling;
 
 use frame::FrameMarker;
-use moves::Counts;
+use moves::{Counts, Cursor};
 pub use record::{ContextRecord, Status};
 pub use refusals::Refusal;
 pub use regions::{LONGEST_STORE, Region};
@@ -25,11 +26,8 @@ impl Region {
     // The region, where it is well formed in a store of `length` words: both numbers multiples of 64, at least 64
     // words, and all of them in the store.
     pub fn new(start: u64, size: u64, length: u64) -> Option<Region>
-        ensures { elim result [
-          | Some g ↦ (well_formed start size length ≡ true) × (g.start ≡ start) × (g.size
-              ≡ size)
-          | None ↦ well_formed start size length ≡ false
-        ] }
+        ensures { MatchOption result (well_formed start size length ≡ false)
+            (λ g. (well_formed start size length ≡ true) × (g.start ≡ start) × (g.size ≡ size)) }
     {
         if start > LONGEST_STORE
             || size > LONGEST_STORE
@@ -73,15 +71,26 @@ impl Context {
             counts,
         }
     }
+
+    // Where its moves stand.
+    pub fn cursor(&self) -> Cursor
+        ensures { result ≡ cursor_of self.now.number self.now.stack self.now.counts }
+    {
+        Cursor {
+            context: self.number,
+            start: self.stack.start,
+            bspstore: self.stack.bspstore,
+            rnat: self.stack.rnat,
+            counts: self.counts,
+        }
+    }
 }
 
 // The marker of a word that is lawful.
 fn marker_of(word: u64) -> FrameMarker
     requires { lawful_word word ≡ true }
-    ensures { PartsOfWord result word }
+    ensures word { word_of result ≡ word }
+    ensures parts { PartsOfWord result word }
 {
-    match FrameMarker::from_word(word) {
-        Some(marker) => marker,
-        None => unreachable(),
-    }
+    FrameMarker::try_from(word).unwrap()
 }

@@ -1,11 +1,10 @@
 // One context by its numbers (docs/RULES.md, "Contexts").
 ghost use Rattle.std.specs.Prelude.{◌≡◌};
-ghost use Rattle.context.specs.Records.{bsp_of, stored_of, cursor_of};
+ghost use Rattle.context.specs.Records.{bsp_of, stored_of};
 
 use address::{address_of, positions_below};
-use moves::{Counts, Cursor};
 
-#[derive(Clone, Copy)]
+#[derive(Clone, Copy, Debug, PartialEq, Eq)]
 pub enum Status {
     Empty,
     Current,
@@ -14,7 +13,7 @@ pub enum Status {
 
 // A region of `size` words from `start`, the stack in it, and what of the stack the file holds: the positions from
 // `lo` on. The markers are kept as their words.
-#[derive(Clone, Copy)]
+#[derive(Clone, Copy, Debug, PartialEq, Eq)]
 pub struct ContextRecord {
     pub status: Status,
     pub start: u32,
@@ -41,17 +40,5 @@ impl ContextRecord {
         ensures { result ≡ stored_of self.now }
     {
         positions_below(self.start, self.bspstore)
-    }
-
-    // Where the moves stand.
-    pub fn cursor(&self, counts: Counts) -> Cursor
-        ensures { result ≡ cursor_of self.now counts }
-    {
-        Cursor {
-            start: self.start,
-            bspstore: self.bspstore,
-            rnat: self.rnat,
-            counts,
-        }
     }
 }

@@ -1,11 +1,12 @@
 // Why an instruction is refused, in the order in which it is asked (docs/RULES.md, "Refusals").
 ghost use Rattle.std.specs.Prelude.{◌≡◌};
-ghost use Rattle.context.specs.declared.refusals.Refusal.TheVariants.{Shut};
+ghost use Rattle.context.specs.declared.refusals.Refusal.TheVariants.{Marker, Shut};
 ghost use Rattle.context.specs.Refusals.{refusal_number};
 
+use frame::UnlawfulMarker;
 use moves::MoveFault;
 
-#[derive(Clone, Copy)]
+#[derive(Clone, Copy, Debug, PartialEq, Eq)]
 pub enum Refusal {
     // The line is not readable.
     Unreadable,
@@ -75,5 +76,13 @@ impl From<MoveFault> for Refusal {
 
     fn from(fault: MoveFault) -> Refusal {
         Refusal::Shut(fault)
+    }
+}
+
+impl From<UnlawfulMarker> for Refusal {
+    ghost from_gives = { λ _ r. r ≡ Marker };
+
+    fn from(_error: UnlawfulMarker) -> Refusal {
+        Refusal::Marker
     }
 }

@@ -5,7 +5,7 @@ ghost use Rattle.std.specs.Prelude.{◌≡◌, ◌+◌, ◌%◌, ◌≤◌};
 pub const LONGEST_STORE: u64 = 65536;
 
 // Words from `start`, both multiples of 64, within the longest store.
-#[derive(Clone, Copy)]
+#[derive(Clone, Copy, Debug, PartialEq, Eq)]
 pub struct Region {
     pub start: u32,
     pub size: u32,

@@ -1,19 +1,46 @@
 // Instructions that go back to a frame below: return, restore, load; park and resume.
-ghost use Rattle.std.specs.Prelude.{◌≡◌, ℕ, ◌+◌, ◌-◌, ◌<◌, ◌≤◌, true, length, IfOk};
+ghost use Rattle.std.specs.Prelude.{◌≡◌, ◌+◌, ◌≤◌, IfOk};
 ghost use Rattle.address.specs.Addresses.{capacity_of};
-ghost use Rattle.frame.specs.Markers.{sof_of, lawful_word};
-ghost use Rattle.context.specs.Scenes.{seen};
+ghost use Rattle.frame.specs.Markers.{sof_of};
+ghost use Rattle.frame.specs.Fields.{word_of};
+ghost use Rattle.context.specs.Scenes.{seen, StackAlone};
 ghost use Rattle.context.specs.Returns.{room_answer, room_after, low_first, refill_asked, refill_answer, refill_after, frame_answer, frame_after, back_after};
 ghost use Rattle.context.specs.Returns.{return_base, restore_base, load_first, back_to, back_to_answer, load_answer, load_after, parked, resumed};
 
-use super::marker_of;
 use super::record::Status;
 use super::refusals::Refusal;
 use super::sound::Context;
 use address::{address_of, capacity, is_collection, positions_below};
-use moves::{MoveFault, ask_fills, ask_lowering, ask_spills, fill_run, lower};
+use frame::FrameMarker;
+use moves::{Cursor, MoveFault};
 use register::{Kind, Slot, clear_registers};
 use store::Store;
+
+// Asks about the word of a lowering, where BSPSTORE is lowered to a collection: that word is the lowest.
+fn ask_low<S: Store>(at: &Cursor, store: &S, word: u64) -> Result<(), MoveFault>
+    ensures { result ≡ low_first (S.meaning store.now) at.now word }
+{
+    if is_collection(word) {
+        at.ask_lowering(store, word)
+    } else {
+        Ok(())
+    }
+}
+
+// Asks about every word of fills and a lowering.
+fn ask_refill<S: Store>(
+    at: &Cursor,
+    store: &S,
+    low: u32,
+    high: u32,
+    word: u64,
+) -> Result<(), MoveFault>
+    ensures { result ≡ refill_asked (S.meaning store.now) at.now low high word }
+{
+    ask_low(at, store, word)?;
+    at.ask_fills(store, low, high)?;
+    at.ask_lowering(store, word)
+}
 
 impl Context {
     // Spills, all asked about first, until all positions below `floor` are stored.
@@ -29,41 +56,8 @@ impl Context {
             ≡ room_after K.zero_content K.image_of (seen self.old slots.now (S.meaning store.old)) floor }
     {
         let end = self.spill_end(floor);
-        ask_spills(&self.stack.cursor(self.counts), store, end, self.number)?;
+        self.cursor().ask_spills(store, end)?;
         self.spill_to(slots, store, end)
-    }
-
-    // Asks about the word of a lowering, where BSPSTORE is lowered to a collection: that word is the lowest.
-    fn ask_low<K: Kind, S: Store>(
-        &self,
-        slots: &[Slot<K>],
-        store: &S,
-        word: u64,
-    ) -> Result<(), MoveFault>
-        ensures { result ≡ low_first (seen self.now slots.now (S.meaning store.now)) word }
-    {
-        if is_collection(word) {
-            ask_lowering(&self.stack.cursor(self.counts), store, word, self.number)
-        } else {
-            Ok(())
-        }
-    }
-
-    // Asks about every word of fills and a lowering.
-    fn ask_refill<K: Kind, S: Store>(
-        &self,
-        slots: &[Slot<K>],
-        store: &S,
-        low: u32,
-        high: u32,
-        word: u64,
-    ) -> Result<(), MoveFault>
-        ensures { result ≡ refill_asked (seen self.now slots.now (S.meaning store.now)) low high word }
-    {
-        self.ask_low(slots, store, word)?;
-        let at = self.stack.cursor(self.counts);
-        ask_fills(&at, store, low, high, self.number)?;
-        ask_lowering(&at, store, word, self.number)
     }
 
     // Fills the positions from `low` to `high` − 1 and lowers BSPSTORE to `word`, all asked about first.
@@ -80,10 +74,10 @@ impl Context {
         ensures after { seen self.new slots.new (S.meaning store.now)
             ≡ refill_after K.content_of (seen self.old slots.old (S.meaning store.now)) low high word }
     {
-        self.ask_refill(slots, store, low, high, word)?;
-        let mut at = self.stack.cursor(self.counts);
-        fill_run(&mut at, slots, store, low, high, self.number)?;
-        lower(&mut at, store, word, self.number)?;
+        let mut at = self.cursor();
+        ask_refill(&at, store, low, high, word)?;
+        at.fill_run(slots, store, low, high)?;
+        at.lower(store, word)?;
         self.settle(at);
         Ok(())
     }
@@ -116,24 +110,25 @@ impl Context {
         Ok(())
     }
 
-    // Goes back to the frame of the marker `word` at `base`; positions that top rises past are cleared.
+    // Goes back to the frame of a marker at `base`; positions that top rises past are cleared.
     fn go_back<K: Kind, S: Store>(
         &mut self,
         slots: &mut [Slot<K>],
         store: &mut S,
         base: u32,
-        word: u64,
+        marker: FrameMarker,
     ) -> Result<(), MoveFault>
-        requires { (lawful_word word ≡ true) × (base + sof_of word ≤ capacity_of self.old.stack.size) }
+        requires { base + marker.sof ≤ capacity_of self.old.stack.size }
         ensures answer { result ≡ frame_answer K.zero_content K.image_of K.content_of
-            (seen self.old slots.old (S.meaning store.old)) base (base + sof_of word) }
+            (seen self.old slots.old (S.meaning store.old)) base (base + sof_of (word_of marker)) }
         ensures after { seen self.new slots.new (S.meaning store.new)
             ≡ back_after K.zero_content K.image_of K.content_of (seen self.old slots.old
-            (S.meaning store.old)) base word }
+            (S.meaning store.old)) base (word_of marker) }
     {
+        let word = u64::from(marker);
         let old_top = self.top();
         let lo = self.stack.lo;
-        let top = base + marker_of(word).sof();
+        let top = base + marker.sof();
         let floor = Context::floor(top, slots.len() as u64);
         self.move_frame(slots, store, base, top)?;
         clear_registers(slots, u64::from(old_top), u64::from(top));
@@ -173,7 +168,7 @@ impl Context {
             (return_base self.old.stack) self.old.stack.previous }
     {
         let base = self.return_base()?;
-        self.go_back(slots, store, base, self.stack.previous)?;
+        self.go_back(slots, store, base, self.previous_marker())?;
         Ok(())
     }
 
@@ -204,7 +199,7 @@ impl Context {
             (restore_base self.old.stack) self.old.stack.saved }
     {
         let base = self.restore_base()?;
-        self.go_back(slots, store, base, self.stack.saved)?;
+        self.go_back(slots, store, base, self.saved_marker())?;
         Ok(())
     }
 
@@ -244,9 +239,7 @@ impl Context {
 
     // Parks: no slot holds a position any more.
     pub fn park(&mut self)
-        ensures stack { self.new.stack ≡ parked self.old.stack }
-        ensures counts { self.new.counts ≡ self.old.counts }
-        ensures number { self.new.number ≡ self.old.number }
+        ensures { StackAlone parked self.old self.new }
     {
         self.stack.status = Status::Parked;
         self.stack.lo = self.stack.base;
@@ -254,9 +247,7 @@ impl Context {
 
     // Resumes: the file holds nothing, and all below base is stored.
     pub fn resume(&mut self)
-        ensures stack { self.new.stack ≡ resumed self.old.stack }
-        ensures counts { self.new.counts ≡ self.old.counts }
-        ensures number { self.new.number ≡ self.old.number }
+        ensures { StackAlone resumed self.old self.new }
     {
         self.stack.status = Status::Current;
         self.stack.lo = self.stack.base;

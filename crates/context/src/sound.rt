@@ -7,7 +7,7 @@ use super::record::ContextRecord;
 use moves::Counts;
 
 // A context that is driven: its stack, its number in faults, and the counts of words moved.
-#[derive(Clone, Copy)]
+#[derive(Clone, Copy, Debug, PartialEq, Eq)]
 pub struct Context {
     pub stack: ContextRecord,
     pub number: u64,

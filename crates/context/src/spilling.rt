@@ -1,18 +1,17 @@
 // Instructions that spill: alloc, flush, the early spill; and the early fill.
-ghost use Rattle.std.specs.Prelude.{◌≡◌, ℕ, ◌+◌, ◌-◌, ◌<◌, ◌≤◌, true, length, IfOk};
+ghost use Rattle.std.specs.Prelude.{◌≡◌, ◌+◌, ◌-◌, ◌<◌, ◌≤◌, IfOk};
 ghost use Rattle.address.specs.Addresses.{capacity_of};
-ghost use Rattle.frame.specs.Markers.{sof_of, lawful_word};
+ghost use Rattle.frame.specs.Fields.{word_of};
 ghost use Rattle.context.specs.Records.{with_moves};
 ghost use Rattle.context.specs.Scenes.{seen, spilled, with_file, if_moved};
-ghost use Rattle.context.specs.Spilling.{spill_end_of, alloc_marker, run_to, grow_run, grown, alloc_answer, alloc_after, flush_run, flush_answer};
+ghost use Rattle.context.specs.Spilling.{spill_end_of, alloc_marker, worded, run_to, grow_run, grown, alloc_answer, alloc_after, flush_run, flush_answer};
 ghost use Rattle.context.specs.Spilling.{early_spill_answer, early_spill_after, early_fill_run, early_filled, early_fill_answer, early_fill_after};
 
-use super::marker_of;
 use super::refusals::Refusal;
 use super::sound::Context;
 use address::{address_of, capacity};
 use frame::FrameMarker;
-use moves::{Cursor, MoveFault, fill_run, spill_until};
+use moves::{Cursor, MoveFault};
 use register::{Kind, Slot, clear_registers};
 use store::Store;
 
@@ -41,8 +40,8 @@ impl Context {
             ≡ spilled (seen self.old slots.now (S.meaning store.old))
             (run_to K.zero_content K.image_of (seen self.old slots.now (S.meaning store.old)) end) }
     {
-        let mut at = self.stack.cursor(self.counts);
-        let moved = spill_until(&mut at, slots, store, end, self.number);
+        let mut at = self.cursor();
+        let moved = at.spill_until(slots, store, end);
         self.settle(at);
         moved
     }
@@ -65,45 +64,40 @@ impl Context {
         u64::from(top).saturating_sub(slots) as u32
     }
 
-    // The word of the marker that alloc sets, where it is lawful and the new top lies in the region.
-    fn allocated(&self, sof: u64, sol: u64, sor: u64) -> Result<u64, Refusal>
-        ensures word { result ≡ alloc_marker self.now.stack sof sol sor }
-        ensures lawful { IfOk result (λ w. lawful_word w ≡ true) }
-        ensures held { IfOk result (λ w. self.now.stack.base + sof_of w ≤ capacity_of self.now.stack.size) }
+    // The marker that alloc sets, where it is lawful and the new top lies in the region.
+    fn allocated(&self, sof: u64, sol: u64, sor: u64) -> Result<FrameMarker, Refusal>
+        ensures word { worded result ≡ alloc_marker self.now.stack sof sol sor }
+        ensures held { IfOk result (λ m. self.now.stack.base + m.sof ≤ capacity_of self.now.stack.size) }
     {
         let old = self.marker();
-        let Some(shape) = FrameMarker::from_parts(sof, sol, sor, 0) else {
-            return Err(Refusal::Marker);
-        };
+        let shape = FrameMarker::from_parts(sof, sol, sor, 0)?;
         if shape.sor() != old.sor() && old.rotation() != 0 {
             return Err(Refusal::Rotation);
         }
         if u64::from(self.stack.base + shape.sof()) > capacity(self.stack.size) {
             return Err(Refusal::Top);
         }
-        match FrameMarker::from_parts(sof, sol, sor, u64::from(old.rotation())) {
-            Some(marker) => Ok(marker.word()),
-            None => unreachable(),
-        }
+        Ok(FrameMarker::from_parts(sof, sol, sor, u64::from(old.rotation()))?)
     }
 
-    // Makes room for the frame of the marker `word` by spills, and clears the positions that top rises past. At a shut
+    // Makes room for the frame of a marker by spills, and clears the positions that top rises past. At a shut
     // word the spills before it stand.
     fn grow<K: Kind, S: Store>(
         &mut self,
         slots: &mut [Slot<K>],
         store: &mut S,
-        word: u64,
+        marker: FrameMarker,
     ) -> Result<(), MoveFault>
-        requires { (lawful_word word ≡ true) × (self.old.stack.base + sof_of word ≤ capacity_of self.old.stack.size) }
+        requires { self.old.stack.base + marker.sof ≤ capacity_of self.old.stack.size }
         ensures answer { result
-            ≡ (grow_run K.zero_content K.image_of (seen self.old slots.old (S.meaning store.old)) word).answer }
+            ≡ (grow_run K.zero_content K.image_of (seen self.old slots.old (S.meaning store.old)) (word_of marker)).answer }
         ensures after { seen self.new slots.new (S.meaning store.new)
             ≡ grown K.zero_content (seen self.old slots.old (S.meaning store.old))
-            (grow_run K.zero_content K.image_of (seen self.old slots.old (S.meaning store.old)) word) word }
+            (grow_run K.zero_content K.image_of (seen self.old slots.old (S.meaning store.old)) (word_of marker)) (word_of marker) }
     {
+        let word = u64::from(marker);
         let old_top = self.top();
-        let top = self.stack.base + marker_of(word).sof();
+        let top = self.stack.base + marker.sof();
         let floor = Context::floor(top, slots.len() as u64);
         let end = self.spill_end(floor);
         self.spill_to(slots, store, end)?;
@@ -127,8 +121,8 @@ impl Context {
         ensures after { seen self.new slots.new (S.meaning store.new)
             ≡ alloc_after K.zero_content K.image_of (seen self.old slots.old (S.meaning store.old)) sof sol sor }
     {
-        let word = self.allocated(sof, sol, sor)?;
-        self.grow(slots, store, word)?;
+        let marker = self.allocated(sof, sol, sor)?;
+        self.grow(slots, store, marker)?;
         Ok(self.stack.previous)
     }
 
@@ -186,8 +180,8 @@ impl Context {
             (S.meaning store.now))).file) }
     {
         let lo = self.stack.lo;
-        let mut at = self.stack.cursor(self.counts);
-        fill_run(&mut at, slots, store, lo - 1, lo, self.number)?;
+        let mut at = self.cursor();
+        at.fill_run(slots, store, lo - 1, lo)?;
         self.settle(at);
         self.stack.lo = lo - 1;
         Ok(())
