@@ -1,5 +1,5 @@
 -- What an engine says of its entries, and which records may be put into them.
-use Rattle.std.proofs.Common.{◌≡◌, ℕ, true, false, sym, refl, ap, subst, arith}
+use Rattle.std.proofs.Common.{◌≡◌, ℕ, true, false, Ok, Err, Result, sym, refl, ap, subst, arith}
 use Rattle.std.proofs.lemmas.Bool.{both_ways}
 use Rattle.context.specs.declared.record.ContextRecord.{ContextRecord}
 use Rattle.context.specs.declared.record.Status.{Status}
@@ -11,7 +11,9 @@ use Rattle.engine.specs.declared.machine.State.TheVariants.{Idle, Running, Cover
 use Rattle.engine.specs.declared.sound.Engine.{Engine}
 use Rattle.engine.specs.Tables.{record_at, empty_record}
 use Rattle.engine.specs.Rules.{is_parked_entry}
-use Rattle.engine.specs.Running.{after_flush}
+use Rattle.context.specs.declared.refusals.Refusal.{Refusal}
+use Rattle.engine.specs.Hosts.{in_state}
+use Rattle.engine.specs.Running.{after_flush, enters}
 use Rattle.engine.specs.Invariants.{is_idle, is_closed, is_flushed, is_current_entry, Fits}
 
 pub sound_at : (e : Engine) (k : ℕ) → Sound e.machine.slots (record_at e.machine k)
@@ -77,6 +79,12 @@ fits_idle m r e sound parked =
 pub fits_next : (m : Machine) (r t u : ContextRecord) → m.state ≡ Running → is_current_entry r.status ≡ true → t.status ≡ r.status → Sound m.slots t → u ≡ t → Fits m u
 fits_next m r t u e current status sound same =
     subst (λ x. Fits m x) (sym same) (fits_running m t e sound (subst (λ x. is_current_entry x ≡ true) (sym status) current))
+
+-- by the answer of an instruction that leads to a state
+pub fits_entered : {T : Type 0} (m : Machine) (r : ContextRecord) (state : State) (answer : Result T Refusal) → ((v : T) → answer ≡ Ok v → Fits (in_state m state) r)
+    → ((e : Refusal) → answer ≡ Err e → Fits m r) → Fits (enters answer state m) r
+fits_entered m r state (Ok v) granted refused = granted v refl
+fits_entered m r state (Err e) granted refused = refused e refl
 
 -- ---- states
 

@@ -7,6 +7,7 @@ use Rattle.context.specs.declared.record.ContextRecord.{ContextRecord}
 use Rattle.context.specs.Scenes.{Scene}
 use Rattle.engine.specs.declared.machine.Machine.{Machine}
 use Rattle.engine.specs.declared.machine.State.{State}
+use Rattle.engine.specs.declared.machine.Mode.{Mode}
 use Rattle.engine.specs.Tables.{record_at}
 
 pub record Host (C : Type 0) : Type 0 where
@@ -20,7 +21,7 @@ in_state m state =
     record { slots = m.slots; words = m.words; state = state; current = m.current; table = m.table; mode = m.mode; counts = m.counts }
 
 -- another mode
-abbrev pub in_mode : Machine → ℕ → Machine
+abbrev pub in_mode : Machine → Mode → Machine
 in_mode m mode =
     record { slots = m.slots; words = m.words; state = m.state; current = m.current; table = m.table; mode = mode; counts = m.counts }
 
@@ -29,10 +30,10 @@ abbrev pub with_entry : Machine → ℕ → ContextRecord → Machine
 with_entry m k r =
     record { slots = m.slots; words = m.words; state = m.state; current = m.current; table = record { entries = slice_set m.table.entries k r }; mode = m.mode; counts = m.counts }
 
--- the entry k is driven, with this record
-abbrev pub driving : Machine → ℕ → ContextRecord → State → Machine
-driving m k r state =
-    record { slots = m.slots; words = m.words; state = state; current = k; table = record { entries = slice_set m.table.entries k r }; mode = m.mode; counts = m.counts }
+-- the entry k is driven, with this record and these counts
+abbrev pub driving : Machine → ℕ → ContextRecord → Counts → State → Machine
+driving m k r counts state =
+    record { slots = m.slots; words = m.words; state = state; current = k; table = record { entries = slice_set m.table.entries k r }; mode = m.mode; counts = counts }
 
 -- the driven entry is put back, with the counts
 abbrev pub put_back : Machine → ContextRecord → Counts → Machine

@@ -2,6 +2,7 @@ pub mod Bounds
 pub mod Hosts
 pub mod Invariants
 pub mod Making
+pub mod Modes
 pub mod Rules
 pub mod Running
 pub mod Steps

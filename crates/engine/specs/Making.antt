@@ -2,6 +2,7 @@
 use Rattle.std.specs.Prelude.{ℕ, ◌%◌, Bool, ◌&&◌, replicate, ◌==◌, nat_le}
 use Rattle.engine.specs.declared.machine.Machine.{Machine}
 use Rattle.engine.specs.declared.machine.State.TheVariants.{Idle}
+use Rattle.engine.specs.Modes.{mode_of}
 use Rattle.engine.specs.Tables.{empty_record}
 
 -- slots a multiple of 16 from 96 to 2,048, words a multiple of 64 from 64 to 65,536
@@ -12,4 +13,4 @@ can_make slots words =
 -- idle, every entry empty, mode 0, nothing moved
 abbrev pub new_machine : ℕ → ℕ → Machine
 new_machine slots words =
-    record { slots = slots; words = words; state = Idle; current = 0; table = record { entries = replicate 8 empty_record }; mode = 0; counts = record { written = 0; read = 0 } }
+    record { slots = slots; words = words; state = Idle; current = 0; table = record { entries = replicate 8 empty_record }; mode = mode_of 0; counts = record { written = 0; read = 0 } }

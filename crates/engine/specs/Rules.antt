@@ -1,5 +1,6 @@
 -- What each instruction answers, in the order of the questions.
-use Rattle.std.specs.Prelude.{ℕ, ◌+◌, Bool, true, false, cond, ◌&&◌, ◌||◌, List, [], ◌∷◌, Ok, Err, Result, nat_le}
+use Rattle.std.specs.Prelude.{ℕ, ◌+◌, Bool, true, false, cond, ◌&&◌, ◌||◌, List, Ok, Err, Result, nat_le}
+use Rattle.std.specs.List.{list_all}
 use Rattle.context.specs.declared.record.ContextRecord.{ContextRecord}
 use Rattle.context.specs.declared.record.Status.{Status}
 use Rattle.context.specs.declared.record.Status.TheVariants.{Empty, Current, Parked}
@@ -65,8 +66,7 @@ lies_apart start size r = is_empty_entry r.status || (nat_le (start + size) r.st
 
 -- a region is clear of every context that is not retired
 abbrev pub is_clear : ℕ → ℕ → List ContextRecord → Bool
-is_clear start size [] = true
-is_clear start size (r ∷ rs) = lies_apart start size r && is_clear start size rs
+is_clear start size rs = list_all (lies_apart start size) rs
 
 -- begin: the entry is empty, the region well formed, and clear of the others
 abbrev pub begin_answer : Machine → ℕ → ℕ → ℕ → Result Answer Refusal
@@ -81,14 +81,14 @@ when_ok (Ok a) through other = through
 when_ok (Err e) through other = other
 
 abbrev pub begin_machine : Machine → ℕ → ℕ → ℕ → Machine
-begin_machine m k s n = when_ok (begin_answer m k s n) (driving m k (begun s n) Running) m
+begin_machine m k s n = when_ok (begin_answer m k s n) (driving m k (begun s n) m.counts Running) m
 
 -- resume and retire: the entry is parked
 abbrev pub parked_answer : Machine → ℕ → Result Answer Refusal
 parked_answer m k = cond (is_parked_entry (record_at m k).status) (Ok Done) (Err Entry)
 
 abbrev pub resume_machine : Machine → ℕ → Machine
-resume_machine m k = cond (is_parked_entry (record_at m k).status) (driving m k (resumed (record_at m k)) Flushed) m
+resume_machine m k = cond (is_parked_entry (record_at m k).status) (driving m k (resumed (record_at m k)) m.counts Flushed) m
 
 abbrev pub retire_machine : Machine → ℕ → Machine
 retire_machine m k = cond (is_parked_entry (record_at m k).status) (with_entry m k empty_record) m

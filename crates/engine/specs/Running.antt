@@ -1,5 +1,5 @@
 -- Instructions on the context that is driven.
-use Rattle.std.specs.Prelude.{ℕ, ◌/◌, ◌%◌, Bool, Ok, Err, Result, ◌==◌}
+use Rattle.std.specs.Prelude.{ℕ, Bool, Ok, Err, Result}
 use Rattle.register.specs.declared.Slot.{Slot}
 use Rattle.context.specs.declared.record.ContextRecord.{ContextRecord}
 use Rattle.context.specs.declared.refusals.Refusal.{Refusal}
@@ -46,10 +46,10 @@ module _ {C : Type 0} where
   abbrev pub leaves : Host C → Scene C → Result Answer Refusal → State → Host C
   leaves h s answer state = with_machine (lifted h s) (enters answer state (lifted h s).machine)
 
-  -- bit 0 of the mode allows early spills
+  -- the mode allows early spills
   abbrev pub spills_early : Host C → Bool
-  spills_early h = h.machine.mode % 2 == 1
+  spills_early h = h.machine.mode.spills
 
-  -- bit 1 allows early fills
+  -- the mode allows early fills
   abbrev pub fills_early : Host C → Bool
-  fills_early h = h.machine.mode / 2 % 2 == 1
+  fills_early h = h.machine.mode.fills

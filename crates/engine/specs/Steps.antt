@@ -19,6 +19,7 @@ use Rattle.engine.specs.declared.instructions.Answer.TheVariants.{Done, Marker, 
 use Rattle.engine.specs.declared.machine.Machine.{Machine}
 use Rattle.engine.specs.declared.machine.State.{State}
 use Rattle.engine.specs.declared.machine.State.TheVariants.{Idle, Running, Covered, Flushed}
+use Rattle.engine.specs.Modes.{mode_of}
 use Rattle.engine.specs.Tables.{record_at}
 use Rattle.engine.specs.Hosts.{Host, scene_of, lifted, with_machine, in_state, in_mode}
 use Rattle.engine.specs.Rules.{in_range, begin_answer, begin_machine, parked_answer, resume_machine, retire_machine, park_machine}
@@ -57,10 +58,10 @@ in_covered_or_flushed Flushed allowed other = allowed
 
 -- state, context, base, marker word and BSP; all 0 in idle
 abbrev pub state_shown : State → ℕ → ContextRecord → Answer
-state_shown Idle k r = StateAnswer 0 0 0 0 0
-state_shown Running k r = StateAnswer 1 k r.base r.marker (bsp_of r)
-state_shown Covered k r = StateAnswer 2 k r.base r.marker (bsp_of r)
-state_shown Flushed k r = StateAnswer 3 k r.base r.marker (bsp_of r)
+state_shown Idle k r = StateAnswer Idle 0 0 0 0
+state_shown Running k r = StateAnswer Running k r.base r.marker (bsp_of r)
+state_shown Covered k r = StateAnswer Covered k r.base r.marker (bsp_of r)
+state_shown Flushed k r = StateAnswer Flushed k r.base r.marker (bsp_of r)
 
 abbrev pub state_of : Machine → Answer
 state_of m = state_shown m.state m.current (record_at m m.current)
@@ -165,7 +166,7 @@ module _ {C : Type 0} where
   ruled_after nought image content sum h (Load d) =
       in_flushed h.machine.state (leaves h (load_after content (scene_of h) d) (answered (λ _. Done) (load_answer content (scene_of h) d)) Covered) h
   ruled_after nought image content sum h Park = in_flushed h.machine.state (with_machine h (park_machine h.machine)) h
-  ruled_after nought image content sum h (SetMode m) = with_machine h (in_mode h.machine m)
+  ruled_after nought image content sum h (SetMode m) = with_machine h (in_mode h.machine (mode_of m))
   ruled_after nought image content sum h AskState = h
   ruled_after nought image content sum h AskCounts = h
 

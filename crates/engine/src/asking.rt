@@ -20,8 +20,7 @@ pub(crate) fn in_range(instruction: Instruction) -> bool
             start,
             size,
         } => context <= 7 && start <= 65536 && size <= 65536,
-        Instruction::Resume { context } => context <= 7,
-        Instruction::Retire { context } => context <= 7,
+        Instruction::Resume { context } | Instruction::Retire { context } => context <= 7,
         Instruction::Alloc { sof, sol, sor } => sof <= 127 && sol <= 127 && sor <= 15,
         Instruction::Write {
             register,
@@ -37,19 +36,19 @@ pub(crate) fn in_range(instruction: Instruction) -> bool
         Instruction::Read { register } => is_register(register),
         Instruction::Load { words } => words <= 2047,
         Instruction::SetMode { mode } => mode <= 3,
-        Instruction::Call => true,
-        Instruction::Return => true,
-        Instruction::Cover => true,
-        Instruction::Rotate => true,
-        Instruction::ResetRotation => true,
-        Instruction::Previous => true,
-        Instruction::SetPrevious { word: _ } => true,
-        Instruction::Restore => true,
-        Instruction::Flush => true,
-        Instruction::EarlySpill => true,
-        Instruction::EarlyFill => true,
-        Instruction::Park => true,
-        Instruction::State => true,
-        Instruction::Counts => true,
+        Instruction::Call
+        | Instruction::Return
+        | Instruction::Cover
+        | Instruction::Rotate
+        | Instruction::ResetRotation
+        | Instruction::Previous
+        | Instruction::SetPrevious { word: _ }
+        | Instruction::Restore
+        | Instruction::Flush
+        | Instruction::EarlySpill
+        | Instruction::EarlyFill
+        | Instruction::Park
+        | Instruction::State
+        | Instruction::Counts => true,
     }
 }

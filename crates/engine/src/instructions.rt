@@ -2,9 +2,10 @@
 ghost use Rattle.std.specs.Prelude.{◌≡◌};
 ghost use Rattle.engine.specs.Running.{shown_as};
 
+use super::machine::State;
 use register::{Kind, Slot};
 
-#[derive(Clone, Copy)]
+#[derive(Clone, Copy, Debug, PartialEq, Eq)]
 pub enum Instruction {
     Begin { context: u64, start: u64, size: u64 },
     Resume { context: u64 },
@@ -32,7 +33,7 @@ pub enum Instruction {
     Counts,
 }
 
-#[derive(Clone, Copy)]
+#[derive(Clone, Copy, Debug, PartialEq, Eq)]
 pub enum Answer {
     Done,
     // A marker's word.
@@ -49,7 +50,7 @@ pub enum Answer {
     },
     // State, context, base, marker word and BSP.
     State {
-        state: u64,
+        state: State,
         context: u64,
         base: u64,
         marker: u64,

@@ -1,7 +1,7 @@
 // The table engine: eight contexts over one file and one store, one instruction at a time.
 #![tactic(auto)]
 
-ghost use Rattle.std.specs.Prelude.{◌≡◌, ℕ, ◌+◌, ◌<◌, ◌≤◌, true, false, length, Ok, Err};
+ghost use Rattle.std.specs.Prelude.{◌≡◌, true, false, length, MatchResult};
 ghost use Rattle.engine.specs.Hosts.{hosted};
 ghost use Rattle.context.specs.declared.refusals.Refusal.TheVariants.{Host as WrongHost};
 ghost use Rattle.engine.specs.Bounds.{NeverTooDeep, FewWritten};
@@ -20,7 +20,7 @@ use asking::in_range;
 use context::Refusal;
 pub use instructions::{Answer, Instruction};
 use machine::EMPTY;
-pub use machine::{ContextTable, Machine, State};
+pub use machine::{ContextTable, Machine, Mode, State};
 use moves::Counts;
 use register::{Kind, Slot};
 pub use sound::Engine;
@@ -30,11 +30,9 @@ impl Engine {
     // A new engine, for files of so many slots over stores of so many words: slots a multiple of 16 from 96 to 2,048,
     // words a multiple of 64 from 64 to 65,536.
     pub fn new(slots: u64, words: u64) -> Result<Engine, Refusal>
-        ensures { elim result [
-          | Ok e ↦ (can_make slots words ≡ true) × (e.machine ≡ new_machine slots words)
-          | Err e ↦ (can_make slots words
-              ≡ false) × (e ≡ WrongHost)
-        ] }
+        ensures { MatchResult result
+            (λ e. (can_make slots words ≡ true) × (e.machine ≡ new_machine slots words))
+            (λ e. (can_make slots words ≡ false) × (e ≡ WrongHost)) }
     {
         if slots % 16 != 0 || slots < 96 || slots > 2048 {
             return Err(Refusal::Host);
@@ -51,7 +49,7 @@ impl Engine {
                 table: ContextTable {
                     entries: [EMPTY; 8],
                 },
-                mode: 0,
+                mode: Mode::from(0),
                 counts: Counts {
                     written: 0,
                     read: 0,
@@ -99,106 +97,61 @@ impl Engine {
             ≡ ruled_after K.zero_content K.image_of K.content_of K.sum_of
             (hosted self.old.machine slots.old (S.meaning store.old)) instruction }
     {
-        match instruction {
-            Instruction::Begin {
-                context,
-                start,
-                size,
-            } => match self.machine.state {
-                State::Idle => self.begin(context, start, size),
-                _ => Err(Refusal::State),
-            },
-            Instruction::Resume { context } => match self.machine.state {
-                State::Idle => self.resume(context),
-                _ => Err(Refusal::State),
-            },
-            Instruction::Retire { context } => match self.machine.state {
-                State::Idle => self.retire(context),
-                _ => Err(Refusal::State),
-            },
-            Instruction::Alloc { sof, sol, sor } => match self.machine.state {
-                State::Running => self.alloc(slots, store, sof, sol, sor),
-                _ => Err(Refusal::State),
-            },
-            Instruction::Call => match self.machine.state {
-                State::Running => Ok(self.call()),
-                _ => Err(Refusal::State),
-            },
-            Instruction::Return => match self.machine.state {
-                State::Running => self.return_to_caller(slots, store),
-                _ => Err(Refusal::State),
-            },
-            Instruction::Cover => match self.machine.state {
-                State::Running => Ok(self.cover()),
-                _ => Err(Refusal::State),
-            },
-            Instruction::Write {
-                register,
-                word,
-                nat,
-            } => match self.machine.state {
-                State::Running => self.write(slots, register, word, nat),
-                _ => Err(Refusal::State),
-            },
-            Instruction::Copy { target, source } => match self.machine.state {
-                State::Running => self.copy(slots, target, source),
-                _ => Err(Refusal::State),
-            },
-            Instruction::Add {
-                target,
-                left,
-                right,
-            } => match self.machine.state {
-                State::Running => self.add(slots, target, left, right),
-                _ => Err(Refusal::State),
-            },
-            Instruction::Read { register } => match self.machine.state {
-                State::Running => self.read(slots, register),
-                _ => Err(Refusal::State),
-            },
-            Instruction::Rotate => match self.machine.state {
-                State::Running => Ok(self.rotate()),
-                _ => Err(Refusal::State),
-            },
-            Instruction::ResetRotation => match self.machine.state {
-                State::Running => Ok(self.reset_rotation()),
-                _ => Err(Refusal::State),
-            },
-            Instruction::Previous => match self.machine.state {
-                State::Running => Ok(self.previous()),
-                _ => Err(Refusal::State),
-            },
-            Instruction::SetPrevious { word } => match self.machine.state {
-                State::Running => self.set_previous(word),
-                _ => Err(Refusal::State),
-            },
-            Instruction::Restore => match self.machine.state {
-                State::Covered | State::Flushed => self.restore(slots, store),
-                _ => Err(Refusal::State),
-            },
-            Instruction::Flush => match self.machine.state {
-                State::Running | State::Covered => self.flush(slots, store),
-                _ => Err(Refusal::State),
-            },
-            Instruction::EarlySpill => match self.machine.state {
-                State::Running | State::Covered => self.early_spill(slots, store),
-                _ => Err(Refusal::State),
-            },
-            Instruction::EarlyFill => match self.machine.state {
-                State::Running | State::Covered => self.early_fill(slots, store),
-                _ => Err(Refusal::State),
-            },
-            Instruction::Load { words } => match self.machine.state {
-                State::Flushed => self.load(slots, store, words),
-                _ => Err(Refusal::State),
-            },
-            Instruction::Park => match self.machine.state {
-                State::Flushed => Ok(self.park()),
-                _ => Err(Refusal::State),
-            },
-            Instruction::SetMode { mode } => Ok(self.set_mode(mode)),
-            Instruction::State => Ok(self.state()),
-            Instruction::Counts => Ok(self.counts()),
+        match (instruction, self.machine.state) {
+            (
+                Instruction::Begin {
+                    context,
+                    start,
+                    size,
+                },
+                State::Idle,
+            ) => self.begin(context, start, size),
+            (Instruction::Resume { context }, State::Idle) => self.resume(context),
+            (Instruction::Retire { context }, State::Idle) => self.retire(context),
+            (Instruction::Alloc { sof, sol, sor }, State::Running) => {
+                self.alloc(slots, store, sof, sol, sor)
+            }
+            (Instruction::Call, State::Running) => Ok(self.call()),
+            (Instruction::Return, State::Running) => self.return_to_caller(slots, store),
+            (Instruction::Cover, State::Running) => Ok(self.cover()),
+            (
+                Instruction::Write {
+                    register,
+                    word,
+                    nat,
+                },
+                State::Running,
+            ) => self.write(slots, register, word, nat),
+            (Instruction::Copy { target, source }, State::Running) => {
+                self.copy(slots, target, source)
+            }
+            (
+                Instruction::Add {
+                    target,
+                    left,
+                    right,
+                },
+                State::Running,
+            ) => self.add(slots, target, left, right),
+            (Instruction::Read { register }, State::Running) => self.read(slots, register),
+            (Instruction::Rotate, State::Running) => Ok(self.rotate()),
+            (Instruction::ResetRotation, State::Running) => Ok(self.reset_rotation()),
+            (Instruction::Previous, State::Running) => Ok(self.previous()),
+            (Instruction::SetPrevious { word }, State::Running) => self.set_previous(word),
+            (Instruction::Restore, State::Covered | State::Flushed) => self.restore(slots, store),
+            (Instruction::Flush, State::Running | State::Covered) => self.flush(slots, store),
+            (Instruction::EarlySpill, State::Running | State::Covered) => {
+                self.early_spill(slots, store)
+            }
+            (Instruction::EarlyFill, State::Running | State::Covered) => {
+                self.early_fill(slots, store)
+            }
+            (Instruction::Load { words }, State::Flushed) => self.load(slots, store, words),
+            (Instruction::Park, State::Flushed) => Ok(self.park()),
+            (Instruction::SetMode { mode }, _) => Ok(self.set_mode(mode)),
+            (Instruction::State, _) => Ok(self.state()),
+            (Instruction::Counts, _) => Ok(self.counts()),
+            _ => Err(Refusal::State),
         }
     }
 }

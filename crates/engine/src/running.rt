@@ -208,16 +208,9 @@ impl Engine {
             self.old.machine.current)) (record_at self.old.machine self.old.machine.current).saved) result Running }
     {
         let mut context = self.context();
-        match context.restore(slots, store) {
-            Ok(()) => {
-                self.leave(context, State::Running);
-                Ok(Answer::Done)
-            }
-            Err(refusal) => {
-                self.put(context);
-                Err(refusal)
-            }
-        }
+        let answer = context.restore(slots, store);
+        self.enter(context, answer, State::Running)?;
+        Ok(Answer::Done)
     }
 
     // At a shut word the spills before it stand. A covered context is flushed then, a running one goes on.
@@ -238,19 +231,12 @@ impl Engine {
             (S.meaning store.old))))) result (after_flush self.old.machine.state) }
     {
         let mut context = self.context();
-        match context.flush(slots, store) {
-            Ok((bsp, rnat)) => {
-                self.leave(context, after_flush(self.machine.state));
-                Ok(Answer::Flushed { bsp, rnat })
-            }
-            Err(refusal) => {
-                self.put(context);
-                Err(refusal)
-            }
-        }
+        let answer = context.flush(slots, store);
+        let (bsp, rnat) = self.enter(context, answer, after_flush(self.machine.state))?;
+        Ok(Answer::Flushed { bsp, rnat })
     }
 
-    // Bit 0 of the mode allows early spills.
+    // Where the mode allows it.
     pub(crate) fn early_spill<K: Kind, S: Store>(
         &mut self,
         slots: &[Slot<K>],
@@ -268,7 +254,7 @@ impl Engine {
             (early_spill_after K.zero_content K.image_of (scene_of (hosted self.old.machine slots.now
             (S.meaning store.old)))) else hosted self.old.machine slots.now (S.meaning store.old)) }
     {
-        if self.machine.mode % 2 != 1 {
+        if !self.machine.mode.spills {
             return Err(Refusal::Mode);
         }
         let mut context = self.context();
@@ -278,7 +264,7 @@ impl Engine {
         Ok(Answer::Done)
     }
 
-    // Bit 1 of the mode allows early fills.
+    // Where the mode allows it.
     pub(crate) fn early_fill<K: Kind, S: Store>(
         &mut self,
         slots: &mut [Slot<K>],
@@ -297,7 +283,7 @@ impl Engine {
             (early_fill_after K.content_of (scene_of (hosted self.old.machine slots.old
             (S.meaning store.now)))) else hosted self.old.machine slots.old (S.meaning store.now)) }
     {
-        if self.machine.mode / 2 % 2 != 1 {
+        if !self.machine.mode.fills {
             return Err(Refusal::Mode);
         }
         let mut context = self.context();
@@ -323,16 +309,9 @@ impl Engine {
             (S.meaning store.now))) words) result Covered }
     {
         let mut context = self.context();
-        match context.load(slots, store, words) {
-            Ok(()) => {
-                self.leave(context, State::Covered);
-                Ok(Answer::Done)
-            }
-            Err(refusal) => {
-                self.put(context);
-                Err(refusal)
-            }
-        }
+        let answer = context.load(slots, store, words);
+        self.enter(context, answer, State::Covered)?;
+        Ok(Answer::Done)
     }
 }
 

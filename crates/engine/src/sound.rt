@@ -9,7 +9,7 @@ ghost use Rattle.engine.specs.Invariants.{is_idle, is_closed, is_flushed, is_cur
 
 use super::machine::Machine;
 
-#[derive(Clone, Copy)]
+#[derive(Clone, Copy, Debug, PartialEq, Eq)]
 pub struct Engine {
     pub machine: Machine,
     ghost eight: { length machine.table.entries ≡ 8 },

@@ -1,10 +1,11 @@
 // Instructions on the table: begin, resume, retire, park; and the questions that alter nothing.
-ghost use Rattle.std.specs.Prelude.{◌≡◌, ℕ, ◌+◌, ◌<◌, ◌≤◌};
-ghost use Rattle.context.specs.Scenes.{seen};
+ghost use Rattle.std.specs.Prelude.{◌≡◌, ◌<◌};
 ghost use Rattle.engine.specs.Tables.{record_at};
 ghost use Rattle.engine.specs.declared.machine.State.TheVariants.{Idle, Flushed};
 ghost use Rattle.engine.specs.Invariants.{Fits};
 ghost use Rattle.engine.specs.Hosts.{with_entry, put_back, driving, in_state, in_mode};
+ghost use Rattle.engine.specs.Modes.{mode_of};
+ghost use Rattle.engine.specs.Running.{enters};
 ghost use Rattle.engine.specs.Rules.{lies_apart, is_clear, is_empty_entry, is_parked_entry, begin_answer, begin_machine};
 ghost use Rattle.engine.specs.Rules.{parked_answer, resume_machine, retire_machine, park_machine};
 ghost use Rattle.engine.specs.declared.instructions.Answer.TheVariants.{Done, State as StateAnswer};
@@ -12,7 +13,7 @@ ghost use Rattle.context.specs.Records.{bsp_of};
 ghost use Rattle.engine.specs.Steps.{state_of, counts_of, driven};
 
 use super::instructions::Answer;
-use super::machine::{EMPTY, State};
+use super::machine::{EMPTY, Mode, State};
 use super::sound::Engine;
 use context::{Context, ContextRecord, Refusal, Region, Status};
 
@@ -30,17 +31,27 @@ fn apart(region: Region, other: &ContextRecord) -> bool
 }
 
 impl Engine {
+    // The context of the entry `k`.
+    fn entry(&self, k: usize) -> Context
+        requires { k < 8 }
+        ensures stack { result.stack ≡ record_at self.now.machine k }
+        ensures number { result.number ≡ k }
+        ensures counts { result.counts ≡ self.now.machine.counts }
+    {
+        Context {
+            stack: self.machine.table.entries[k],
+            number: k as u64,
+            counts: self.machine.counts,
+        }
+    }
+
     // The context that is driven.
     pub(crate) fn context(&self) -> Context
         ensures stack { result.stack ≡ record_at self.now.machine self.now.machine.current }
         ensures number { result.number ≡ self.now.machine.current }
         ensures counts { result.counts ≡ self.now.machine.counts }
     {
-        Context {
-            stack: self.machine.table.entries[self.machine.current],
-            number: self.machine.current as u64,
-            counts: self.machine.counts,
-        }
+        self.entry(self.machine.current)
     }
 
     // Puts a context into the entry `k`; no other entry changes.
@@ -65,7 +76,37 @@ impl Engine {
         requires { Fits (in_state self.old.machine state) context.stack }
         ensures { self.new.machine ≡ in_state (put_back self.old.machine context.stack context.counts) state }
     {
-        self.machine.table.entries[self.machine.current] = context.stack;
+        self.drive(self.machine.current, context, state);
+    }
+
+    // Puts it back after an instruction, and enters another state where that was granted.
+    pub(crate) fn enter<T>(
+        &mut self,
+        context: Context,
+        answer: Result<T, Refusal>,
+        state: State,
+    ) -> Result<T, Refusal>
+        requires { Fits (enters answer state self.old.machine) context.stack }
+        ensures answer { result ≡ answer }
+        ensures machine { self.new.machine ≡ enters answer state (put_back self.old.machine context.stack context.counts) }
+    {
+        let next = if answer.is_ok() {
+            state
+        } else {
+            self.machine.state
+        };
+        self.leave(context, next);
+        answer
+    }
+
+    // Makes the entry `k` the one that is driven, puts a context into it, and enters a state.
+    fn drive(&mut self, k: usize, context: Context, state: State)
+        requires entry { k < 8 }
+        requires fits { Fits (in_state self.old.machine state) context.stack }
+        ensures { self.new.machine ≡ driving self.old.machine k context.stack context.counts state }
+    {
+        self.machine.table.entries[k] = context.stack;
+        self.machine.current = k;
         self.machine.counts = context.counts;
         self.machine.state = state;
     }
@@ -74,37 +115,25 @@ impl Engine {
     fn is_clear(&self, region: Region) -> bool
         ensures { result ≡ is_clear region.start region.size self.now.machine.table.entries }
     {
-        for other in &self.machine.table.entries {
-            if !apart(region, other) {
-                return false;
-            }
-        }
-        true
+        self.machine
+            .table
+            .entries
+            .iter()
+            .all(|other| apart(region, other))
     }
 
     fn is_empty(&self, k: usize) -> bool
         requires { k < 8 }
         ensures { result ≡ is_empty_entry (record_at self.now.machine k).status }
     {
-        matches!(self.machine.table.entries[k].status, Status::Empty)
+        self.machine.table.entries[k].status == Status::Empty
     }
 
     fn is_parked(&self, k: usize) -> bool
         requires { k < 8 }
         ensures { result ≡ is_parked_entry (record_at self.now.machine k).status }
     {
-        matches!(self.machine.table.entries[k].status, Status::Parked)
-    }
-
-    // Makes the entry `k` the one that is driven.
-    fn drive(&mut self, k: usize, context: Context, state: State)
-        requires entry { k < 8 }
-        requires fits { Fits (in_state self.old.machine state) context.stack }
-        ensures { self.new.machine ≡ driving self.old.machine k context.stack state }
-    {
-        self.machine.table.entries[k] = context.stack;
-        self.machine.current = k;
-        self.machine.state = state;
+        self.machine.table.entries[k].status == Status::Parked
     }
 
     pub(crate) fn begin(&mut self, context: u64, start: u64, size: u64) -> Result<Answer, Refusal>
@@ -116,9 +145,7 @@ impl Engine {
         if !self.is_empty(k) {
             return Err(Refusal::Entry);
         }
-        let Some(region) = Region::new(start, size, self.machine.words) else {
-            return Err(Refusal::Region);
-        };
+        let region = Region::new(start, size, self.machine.words).ok_or(Refusal::Region)?;
         if !self.is_clear(region) {
             return Err(Refusal::Overlap);
         }
@@ -128,18 +155,6 @@ impl Engine {
             State::Running,
         );
         Ok(Answer::Done)
-    }
-
-    // The context of the entry `k`.
-    fn entry(&self, k: usize) -> Context
-        requires { k < 8 }
-        ensures { result.stack ≡ record_at self.now.machine k }
-    {
-        Context {
-            stack: self.machine.table.entries[k],
-            number: k as u64,
-            counts: self.machine.counts,
-        }
     }
 
     pub(crate) fn resume(&mut self, context: u64) -> Result<Answer, Refusal>
@@ -189,14 +204,30 @@ impl Engine {
 
     pub(crate) fn set_mode(&mut self, mode: u64) -> Answer
         ensures answer { result ≡ Done }
-        ensures machine { self.new.machine ≡ in_mode self.old.machine mode }
+        ensures machine { self.new.machine ≡ in_mode self.old.machine (mode_of mode) }
     {
-        self.machine.mode = mode;
+        self.machine.mode = Mode::from(mode);
         Answer::Done
     }
 
-    // What the question of the state shows of the context that is driven.
-    fn shown(&self, state: u64) -> Answer
+    // State, context, base, marker word and BSP; all 0 in idle.
+    pub(crate) fn state(&self) -> Answer
+        ensures { result ≡ state_of self.now.machine }
+    {
+        match self.machine.state {
+            State::Idle => Answer::State {
+                state: State::Idle,
+                context: 0,
+                base: 0,
+                marker: 0,
+                bsp: 0,
+            },
+            state => self.shown(state),
+        }
+    }
+
+    // What that question shows of the context that is driven.
+    fn shown(&self, state: State) -> Answer
         ensures { result ≡ StateAnswer state self.now.machine.current (driven self.now.machine).base (driven
             self.now.machine).marker (bsp_of (driven self.now.machine)) }
     {
@@ -207,24 +238,6 @@ impl Engine {
             base: u64::from(context.stack.base),
             marker: context.stack.marker,
             bsp: context.stack.bsp(),
-        }
-    }
-
-    // State, context, base, marker word and BSP; all 0 in idle.
-    pub(crate) fn state(&self) -> Answer
-        ensures { result ≡ state_of self.now.machine }
-    {
-        match self.machine.state {
-            State::Idle => Answer::State {
-                state: 0,
-                context: 0,
-                base: 0,
-                marker: 0,
-                bsp: 0,
-            },
-            State::Running => self.shown(1),
-            State::Covered => self.shown(2),
-            State::Flushed => self.shown(3),
         }
     }
 

@@ -1,4 +1,4 @@
-use Rattle.std.proofs.Common.{sym, refl, subst}
+use Rattle.std.proofs.Common.{◌≡◌, Some, sym, refl, subst, arith}
 use Rattle.context.specs.Sound.{Sound}
 use Rattle.context.specs.Regions.{begun}
 use Rattle.context.proofs.SoundFrames.{begun_sound}
@@ -11,8 +11,9 @@ use Rattle.engine.proofs.sound.Engine.begin.Goals as goal
 pub drive-requires : goal.drive-requires
 drive-requires c =
     let m = c.args.self.now.machine in
-    let g = c.in-Some.region in
-    let made = c.in-Some.ensures in
+    let g = c.in_ok-region.region in
+    let some : c.new.result ≡ Some g = grind arith in
+    let made = rw some at c.new.ensures in
     let sound : Sound m.slots (begun g.start g.size) = rw (made.1, made.2) (begun_sound m.slots c.args.start c.args.size m.words made.0) in
     record {
       entry = c.requires;

@@ -17,7 +17,7 @@ drive-requires c =
     let r = record_at m k in
     let was : is_parked_entry r.status ≡ true = search rules in
     let facts = parked_at e k was in
-    let after : c.resume.new.self.stack ≡ resumed r = c.resume.ensures.stack ∙ ap resumed c.entry-resumed.ensures in
+    let after : c.resume.new.self.stack ≡ resumed r = c.resume.ensures.stack ∙ ap resumed c.entry-resumed.ensures.stack in
     record {
       entry = c.requires;
       fits = subst (λ x. Fits (in_state m Flushed) x) (sym after)
