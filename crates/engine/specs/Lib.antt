@@ -1,4 +1,5 @@
 pub mod Bounds
+pub mod Changes
 pub mod Hosts
 pub mod Invariants
 pub mod Making

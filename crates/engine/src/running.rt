@@ -17,7 +17,7 @@ ghost use Rattle.engine.specs.Running.{answered, restacked, shown_as, flushed_as
 use super::instructions::{Answer, shown};
 use super::machine::State;
 use super::sound::Engine;
-use context::Refusal;
+use context::{Context, Refusal};
 use register::{Kind, Slot};
 use store::Store;
 
@@ -51,9 +51,7 @@ impl Engine {
         ensures answer { result ≡ Done }
         ensures machine { self.new.machine ≡ restacked self.old.machine called }
     {
-        let mut context = self.context();
-        context.call();
-        self.put(context);
+        self.change(State::Running, Context::call);
         Answer::Done
     }
 
@@ -87,9 +85,7 @@ impl Engine {
         ensures answer { result ≡ Done }
         ensures machine { self.new.machine ≡ in_state (restacked self.old.machine covered) Covered }
     {
-        let mut context = self.context();
-        context.cover();
-        self.leave(context, State::Covered);
+        self.change(State::Covered, Context::cover);
         Answer::Done
     }
 
@@ -154,9 +150,7 @@ impl Engine {
         ensures answer { result ≡ Done }
         ensures machine { self.new.machine ≡ restacked self.old.machine rotated_frame }
     {
-        let mut context = self.context();
-        context.rotate();
-        self.put(context);
+        self.change(State::Running, Context::rotate);
         Answer::Done
     }
 
@@ -165,9 +159,7 @@ impl Engine {
         ensures answer { result ≡ Done }
         ensures machine { self.new.machine ≡ restacked self.old.machine reset_frame }
     {
-        let mut context = self.context();
-        context.reset_rotation();
-        self.put(context);
+        self.change(State::Running, Context::reset_rotation);
         Answer::Done
     }
 
@@ -182,10 +174,7 @@ impl Engine {
         ensures answer { result ≡ answered (λ _. Done) (previous_answer word) }
         ensures machine { self.new.machine ≡ restacked self.old.machine (λ r. previous_set r word) }
     {
-        let mut context = self.context();
-        let answer = context.set_previous(word);
-        self.put(context);
-        answer?;
+        self.change(State::Running, |context| context.set_previous(word))?;
         Ok(Answer::Done)
     }
 

@@ -4,6 +4,7 @@ ghost use Rattle.engine.specs.Tables.{record_at};
 ghost use Rattle.engine.specs.declared.machine.State.TheVariants.{Idle, Flushed};
 ghost use Rattle.engine.specs.Invariants.{Fits};
 ghost use Rattle.engine.specs.Hosts.{with_entry, put_back, driving, in_state, in_mode};
+ghost use Rattle.engine.specs.Changes.{FitsAfter, Changes};
 ghost use Rattle.engine.specs.Modes.{mode_of};
 ghost use Rattle.engine.specs.Running.{enters};
 ghost use Rattle.engine.specs.Rules.{lies_apart, is_clear, is_empty_entry, is_parked_entry, begin_answer, begin_machine};
@@ -96,6 +97,22 @@ impl Engine {
             self.machine.state
         };
         self.leave(context, next);
+        answer
+    }
+
+    // An instruction on the record of the context that is driven: it is taken out, changed and put back, and a state entered.
+    pub(crate) fn change<T, F: FnOnce(&mut Context) -> T>(
+        &mut self,
+        state: State,
+        instruction: F,
+    ) -> T
+        requires callable { F.IsAlwaysCallable instruction }
+        requires fits { FitsAfter (F.FnOnce) instruction self.old.machine state }
+        ensures { Changes (F.FnOnce) instruction self.old.machine state result self.new.machine }
+    {
+        let mut context = self.context();
+        let answer = instruction(&mut context);
+        self.leave(context, state);
         answer
     }
 
@@ -196,9 +213,7 @@ impl Engine {
         ensures answer { result ≡ Done }
         ensures machine { self.new.machine ≡ park_machine self.old.machine }
     {
-        let mut context = self.context();
-        context.park();
-        self.leave(context, State::Idle);
+        self.change(State::Idle, Context::park);
         Answer::Done
     }
 
