@@ -1,5 +1,5 @@
 // Regions of the backing store.
-ghost use Rattle.std.specs.Prelude.{◌≡◌, ◌+◌, ◌%◌, ◌≤◌};
+ghost use Rattle.std.specs.Prelude.{◌+◌, ◌≤◌};
 
 // The longest store that an engine takes.
 pub const LONGEST_STORE: u64 = 65536;

@@ -1,5 +1,5 @@
 -- What an engine says of its entries, and which records may be put into them.
-use Rattle.std.proofs.Common.{◌≡◌, ℕ, true, false, Ok, Err, Result, sym, refl, ap, subst, arith}
+use Rattle.std.proofs.Common.{◌≡◌, ℕ, ◌≤◌, true, false, Ok, Err, Result, sym, refl, ap, subst, arith}
 use Rattle.std.proofs.lemmas.Bool.{both_ways}
 use Rattle.context.specs.declared.record.ContextRecord.{ContextRecord}
 use Rattle.context.specs.declared.record.Status.{Status}
@@ -34,6 +34,13 @@ recount r e h = subst (λ x. Sound x r) e h
 -- the record of the context that is driven
 abbrev pub driven_in : Engine → ContextRecord
 driven_in e = record_at e.machine e.machine.current
+
+-- what an instruction that moves registers begins with: its record is sound in a file of so many slots, which holds any frame
+pub begins_sound : (e : Engine) (n : ℕ) (r : ContextRecord) → n ≡ e.machine.slots → r ≡ driven_in e → (96 ≤ n) × Sound n r
+begins_sound e n r long same = (
+  subst (λ k. 96 ≤ k) (sym long) e.enough,
+  subst (λ k. Sound k r) (sym long) (subst (λ x. Sound e.machine.slots x) (sym same) (sound_at e e.machine.current)),
+)
 
 pub closed_in : (e : Engine) → is_closed e.machine.state ≡ true → Closed (driven_in e)
 closed_in e t = record { empty = e.covered t; below = e.below t }
