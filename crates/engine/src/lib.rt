@@ -17,7 +17,7 @@ mod sound;
 mod table;
 
 use asking::in_range;
-use context::Refusal;
+use context::{Context, Refusal};
 pub use instructions::{Answer, Instruction};
 use machine::EMPTY;
 pub use machine::{ContextTable, Machine, Mode, State};
@@ -111,9 +111,9 @@ impl Engine {
             (Instruction::Alloc { sof, sol, sor }, State::Running) => {
                 self.alloc(slots, store, sof, sol, sor)
             }
-            (Instruction::Call, State::Running) => Ok(self.call()),
+            (Instruction::Call, State::Running) => Ok(self.done(State::Running, Context::call)),
             (Instruction::Return, State::Running) => self.return_to_caller(slots, store),
-            (Instruction::Cover, State::Running) => Ok(self.cover()),
+            (Instruction::Cover, State::Running) => Ok(self.done(State::Covered, Context::cover)),
             (
                 Instruction::Write {
                     register,
@@ -134,8 +134,11 @@ impl Engine {
                 State::Running,
             ) => self.add(slots, target, left, right),
             (Instruction::Read { register }, State::Running) => self.read(slots, register),
-            (Instruction::Rotate, State::Running) => Ok(self.rotate()),
-            (Instruction::ResetRotation, State::Running) => Ok(self.reset_rotation()),
+            (Instruction::Rotate, State::Running) => Ok(self.done(State::Running, Context::rotate)),
+            (Instruction::ResetRotation, State::Running) => Ok(self.done(
+                State::Running,
+                Context::reset_rotation,
+            )),
             (Instruction::Previous, State::Running) => Ok(self.previous()),
             (Instruction::SetPrevious { word }, State::Running) => self.set_previous(word),
             (Instruction::Restore, State::Covered | State::Flushed) => self.restore(slots, store),
@@ -147,7 +150,7 @@ impl Engine {
                 self.early_fill(slots, store)
             }
             (Instruction::Load { words }, State::Flushed) => self.load(slots, store, words),
-            (Instruction::Park, State::Flushed) => Ok(self.park()),
+            (Instruction::Park, State::Flushed) => Ok(self.done(State::Idle, Context::park)),
             (Instruction::SetMode { mode }, _) => Ok(self.set_mode(mode)),
             (Instruction::State, _) => Ok(self.state()),
             (Instruction::Counts, _) => Ok(self.counts()),

@@ -46,15 +46,6 @@ impl Engine {
         Ok(Answer::Marker(previous?))
     }
 
-    pub(crate) fn call(&mut self) -> Answer
-        requires { self.old.machine.state ≡ Running }
-        ensures answer { result ≡ Done }
-        ensures machine { self.new.machine ≡ restacked self.old.machine called }
-    {
-        self.change(State::Running, Context::call);
-        Answer::Done
-    }
-
     pub(crate) fn return_to_caller<K: Kind, S: Store>(
         &mut self,
         slots: &mut [Slot<K>],
@@ -78,15 +69,6 @@ impl Engine {
         self.put(context);
         returned?;
         Ok(Answer::Done)
-    }
-
-    pub(crate) fn cover(&mut self) -> Answer
-        requires { self.old.machine.state ≡ Running }
-        ensures answer { result ≡ Done }
-        ensures machine { self.new.machine ≡ in_state (restacked self.old.machine covered) Covered }
-    {
-        self.change(State::Covered, Context::cover);
-        Answer::Done
     }
 
     pub(crate) fn write<K: Kind>(
@@ -143,24 +125,6 @@ impl Engine {
             self.now.machine.current) slots.now register) }
     {
         Ok(shown(self.context().read(slots, register)?))
-    }
-
-    pub(crate) fn rotate(&mut self) -> Answer
-        requires { self.old.machine.state ≡ Running }
-        ensures answer { result ≡ Done }
-        ensures machine { self.new.machine ≡ restacked self.old.machine rotated_frame }
-    {
-        self.change(State::Running, Context::rotate);
-        Answer::Done
-    }
-
-    pub(crate) fn reset_rotation(&mut self) -> Answer
-        requires { self.old.machine.state ≡ Running }
-        ensures answer { result ≡ Done }
-        ensures machine { self.new.machine ≡ restacked self.old.machine reset_frame }
-    {
-        self.change(State::Running, Context::reset_rotation);
-        Answer::Done
     }
 
     pub(crate) fn previous(&self) -> Answer

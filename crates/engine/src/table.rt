@@ -116,6 +116,17 @@ impl Engine {
         answer
     }
 
+    // The same, of an instruction that answers nothing.
+    pub(crate) fn done<F: FnOnce(&mut Context)>(&mut self, state: State, instruction: F) -> Answer
+        requires callable { F.IsAlwaysCallable instruction }
+        requires fits { FitsAfter F.FnOnce instruction self.old.machine state }
+        ensures answer { result ≡ Done }
+        ensures machine { Changes F.FnOnce instruction self.old.machine state tt self.new.machine }
+    {
+        self.change(state, instruction);
+        Answer::Done
+    }
+
     // Makes the entry `k` the one that is driven, puts a context into it, and enters a state.
     fn drive(&mut self, k: usize, context: Context, state: State)
         requires entry { k < 8 }
@@ -206,15 +217,6 @@ impl Engine {
         };
         self.replace(k, empty);
         Ok(Answer::Done)
-    }
-
-    pub(crate) fn park(&mut self) -> Answer
-        requires { self.old.machine.state ≡ Flushed }
-        ensures answer { result ≡ Done }
-        ensures machine { self.new.machine ≡ park_machine self.old.machine }
-    {
-        self.change(State::Idle, Context::park);
-        Answer::Done
     }
 
     pub(crate) fn set_mode(&mut self, mode: u64) -> Answer
