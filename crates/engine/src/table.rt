@@ -150,29 +150,15 @@ impl Engine {
             .all(|other| apart(region, other))
     }
 
-    fn is_empty(&self, k: usize) -> bool
-        requires { k < 8 }
-        ensures { result ≡ is_empty_entry (record_at self.now.machine k).status }
-    {
-        self.machine.table.entries[k].status == Status::Empty
-    }
-
-    fn is_parked(&self, k: usize) -> bool
-        requires { k < 8 }
-        ensures { result ≡ is_parked_entry (record_at self.now.machine k).status }
-    {
-        self.machine.table.entries[k].status == Status::Parked
-    }
-
     pub(crate) fn begin(&mut self, context: u64, start: u64, size: u64) -> Result<Answer, Refusal>
         requires { context < 8 }
         ensures answer { result ≡ begin_answer self.old.machine context start size }
         ensures machine { self.new.machine ≡ begin_machine self.old.machine context start size }
     {
         let k = context as usize;
-        if !self.is_empty(k) {
+        let Status::Empty = self.machine.table.entries[k].status else {
             return Err(Refusal::Entry);
-        }
+        };
         let region = Region::new(start, size, self.machine.words).ok_or(Refusal::Region)?;
         if !self.is_clear(region) {
             return Err(Refusal::Overlap);
@@ -191,9 +177,9 @@ impl Engine {
         ensures machine { self.new.machine ≡ resume_machine self.old.machine context }
     {
         let k = context as usize;
-        if !self.is_parked(k) {
+        let Status::Parked = self.machine.table.entries[k].status else {
             return Err(Refusal::Entry);
-        }
+        };
         let mut resumed = self.entry(k);
         resumed.resume();
         self.drive(k, resumed, State::Flushed);
@@ -207,9 +193,9 @@ impl Engine {
         ensures machine { self.new.machine ≡ retire_machine self.old.machine context }
     {
         let k = context as usize;
-        if !self.is_parked(k) {
+        let Status::Parked = self.machine.table.entries[k].status else {
             return Err(Refusal::Entry);
-        }
+        };
         let empty = Context {
             stack: EMPTY,
             number: context,
