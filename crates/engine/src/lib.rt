@@ -121,9 +121,13 @@ impl Engine {
                     nat,
                 },
                 State::Running,
-            ) => self.write(slots, register, word, nat),
+            ) => {
+                self.context().write(slots, register, word, nat == 1)?;
+                Ok(Answer::Done)
+            }
             (Instruction::Copy { target, source }, State::Running) => {
-                self.copy(slots, target, source)
+                self.context().copy(slots, target, source)?;
+                Ok(Answer::Done)
             }
             (
                 Instruction::Add {
@@ -132,7 +136,10 @@ impl Engine {
                     right,
                 },
                 State::Running,
-            ) => self.add(slots, target, left, right),
+            ) => {
+                self.context().add(slots, target, left, right)?;
+                Ok(Answer::Done)
+            }
             (Instruction::Read { register }, State::Running) => self.read(slots, register),
             (Instruction::Rotate, State::Running) => Ok(self.done(State::Running, Context::rotate)),
             (Instruction::ResetRotation, State::Running) => Ok(self.done(

@@ -71,55 +71,6 @@ impl Engine {
         Ok(Answer::Done)
     }
 
-    pub(crate) fn write<K: Kind>(
-        &self,
-        slots: &mut [Slot<K>],
-        register: u64,
-        word: u64,
-        nat: u64,
-    ) -> Result<Answer, Refusal>
-        ensures answer { result ≡ answered (λ _. Done) (one_register (record_at self.now.machine
-            self.now.machine.current) register) }
-        ensures file { slots.new
-            ≡ write_file K.content_of (record_at self.now.machine self.now.machine.current)
-            slots.old register word (nat == 1) }
-    {
-        self.context().write(slots, register, word, nat == 1)?;
-        Ok(Answer::Done)
-    }
-
-    pub(crate) fn copy<K: Kind>(
-        &self,
-        slots: &mut [Slot<K>],
-        target: u64,
-        source: u64,
-    ) -> Result<Answer, Refusal>
-        ensures answer { result ≡ answered (λ _. Done) (two_registers (record_at self.now.machine
-            self.now.machine.current) target source) }
-        ensures file { slots.new ≡ copy_file K.zero_content (record_at self.now.machine
-            self.now.machine.current) slots.old target source }
-    {
-        self.context().copy(slots, target, source)?;
-        Ok(Answer::Done)
-    }
-
-    pub(crate) fn add<K: Kind>(
-        &self,
-        slots: &mut [Slot<K>],
-        target: u64,
-        left: u64,
-        right: u64,
-    ) -> Result<Answer, Refusal>
-        ensures answer { result ≡ answered (λ _. Done) (three_registers (record_at self.now.machine
-            self.now.machine.current) target left right) }
-        ensures file { slots.new
-            ≡ add_file K.zero_content K.sum_of (record_at self.now.machine self.now.machine.current)
-            slots.old target left right }
-    {
-        self.context().add(slots, target, left, right)?;
-        Ok(Answer::Done)
-    }
-
     pub(crate) fn read<K: Kind>(&self, slots: &[Slot<K>], register: u64) -> Result<Answer, Refusal>
         ensures { result ≡ answered (shown_as K.image_of) (read_answer K.zero_content (record_at self.now.machine
             self.now.machine.current) slots.now register) }
