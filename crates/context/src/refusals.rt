@@ -75,7 +75,7 @@ impl From<MoveFault> for Refusal {
     ghost from_gives = { λ fault r. r ≡ Shut fault };
 
     fn from(fault: MoveFault) -> Refusal {
-        Refusal::Shut(fault)
+        Self::Shut(fault)
     }
 }
 
@@ -83,6 +83,6 @@ impl From<UnlawfulMarker> for Refusal {
     ghost from_gives = { λ _ r. r ≡ Marker };
 
     fn from(_error: UnlawfulMarker) -> Refusal {
-        Refusal::Marker
+        Self::Marker
     }
 }
