@@ -61,6 +61,6 @@ impl<'a> Store for FlatStore<'a> {
         ensures after { flat_of self.new.words.now ≡ door_set (flat_of self.old.words.now) page «open» }
         ensures lent { self.new.words.ghost_name ≡ self.old.words.ghost_name }
     {
-        Err(Cause::of_door(self.len(), page))
+        Err(Cause::of_fixed_door(self.len(), page))
     }
 }

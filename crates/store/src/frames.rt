@@ -18,7 +18,7 @@ impl fmt::Display for HostRefused {
 impl Error for HostRefused {}
 
 impl HostRefused {
-    // The number of this refusal.
+    // The number of this refusal. It stays a method, since a lone error has no variants to number.
     pub fn number(self) -> u64
         ensures { result ≡ 17 }
     {
@@ -30,6 +30,7 @@ impl HostRefused {
 fn sound(n: u64, frames: &[u64]) -> bool
     ensures { MatchBool result (Below frames.now n × Different frames.now) (Below frames.now n → Different frames.now → ⊥) }
 {
+    // A loop: its invariant is a line, where `all` over the same chain leaves a goal.
     for (i, frame) in frames.iter().enumerate() {
         if *frame >= n || frames[..i].contains(frame) {
             return false;

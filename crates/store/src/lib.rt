@@ -25,7 +25,7 @@ pub enum Cause {
 
 impl Cause {
     // Why a store of `words` words whose doors do not move refuses to open or shut page `page`.
-    pub fn of_door(words: u64, page: u64) -> Cause
+    pub fn of_fixed_door(words: u64, page: u64) -> Cause
         ensures { result ≡ (if nat_lt page (words / 64) then Cause.Fixed else Cause.Beyond) }
     {
         if page < words / 64 {

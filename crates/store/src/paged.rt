@@ -1,5 +1,5 @@
 // A memory of the host in pages of 64 words, each in the frame that it is given. Its doors move.
-ghost use Rattle.std.specs.Prelude.{◌*◌, ◌≤◌, length, vec_len};
+ghost use Rattle.std.specs.Prelude.{◌≡◌, ◌*◌, ◌≤◌, true, length, vec_len};
 ghost use Rattle.store.specs.Frames.{Below, Different};
 ghost use Rattle.store.specs.Pages.{frames_of};
 
@@ -10,6 +10,14 @@ mod calls;
 struct Page {
     frame: u64,
     open: bool,
+}
+
+impl Page {
+    fn new(frame: u64) -> Page
+        ensures { result ≡ record { frame = frame; «open» = true } }
+    {
+        Page { frame, open: true }
+    }
 }
 
 // Word w lies at w % 64 in the frame of page w / 64. No two pages have one frame.

@@ -70,6 +70,7 @@ impl Store for HalfStore {
         w < self.len()
     }
 
+    #[tactic(auto, using(crate::proofs::Words::one_word))]
     fn write(&mut self, w: u64, v: u64) -> Result<(), StoreFault> {
         let halves = self
             .halves
@@ -80,6 +81,6 @@ impl Store for HalfStore {
     }
 
     fn set_door(&mut self, page: u64, _open: bool) -> Result<(), Cause> {
-        Err(Cause::of_door(self.len(), page))
+        Err(Cause::of_fixed_door(self.len(), page))
     }
 }

@@ -1,8 +1,8 @@
 // Making a paged store, and its calls.
-ghost use Rattle.std.specs.Prelude.{◌≡◌, ◌*◌, ◌≤◌, length, IfOk, MatchOption, vec_len, slice_set};
+ghost use Rattle.std.specs.Prelude.{◌≡◌, ◌*◌, ◌<◌, ◌≤◌, length, IfOk, MatchOption, vec_len, slice_set};
 ghost use Rattle.store.specs.Frames.{Fit, no_words};
 ghost use Rattle.store.specs.Pages.{Opened};
-ghost use Rattle.store.specs.Paged.{meaning_of, words_of, found_of, landed, Lies, IsPageOf, Laid};
+ghost use Rattle.store.specs.Paged.{meaning_of, words_of, store_frames, store_doors, found_of, landed, Lies, IsPageOf, Laid};
 ghost use Rattle.store.specs.Paging.{words_bounded, words_flagged};
 ghost use Rattle.store.specs.Rules.{write_of, written, door_of, door_set};
 
@@ -14,10 +14,7 @@ use std::alloc::{AllocError, Global};
 fn opened(heap: Global, frames: &[u64]) -> Result<Vec<Page>, AllocError>
     ensures { IfOk result (λ pages. Opened frames.now pages.items) }
 {
-    frames
-        .iter()
-        .map(|&frame| Page { frame, open: true })
-        .collect(heap)
+    frames.iter().copied().map(Page::new).collect(heap)
 }
 
 impl<'a> PagedStore<'a> {
@@ -81,6 +78,16 @@ impl<'a> PagedStore<'a> {
     {
         self.memory[place] = v;
     }
+
+    // Opens or shuts page `page`.
+    fn turn(&mut self, page: u64, open: bool)
+        requires { page < vec_len self.old.pages }
+        ensures frames { store_frames self.new ≡ store_frames self.old }
+        ensures doors { store_doors self.new ≡ slice_set (store_doors self.old) page «open» }
+        ensures memory { self.new.memory ≡ self.old.memory }
+    {
+        self.pages[page as usize].open = open;
+    }
 }
 
 impl<'a> Store for PagedStore<'a> {
@@ -123,7 +130,7 @@ impl<'a> Store for PagedStore<'a> {
         if page >= self.count() {
             return Err(Cause::Beyond);
         }
-        self.pages[page as usize].open = open;
+        self.turn(page, open);
         Ok(())
     }
 }

@@ -1,7 +1,7 @@
 use Rattle.std.proofs.Common.{◌/◌, List, vec_items, subst}
 use Rattle.std.specs.Slice.{IsItemAt}
 use Rattle.store.specs.declared.paged.Page.{Page}
-use Rattle.store.proofs.Places.{page_found}
+use Rattle.store.proofs.Pages.{page_found}
 use Rattle.store.proofs.paged.PagedStore.page.Goals as goal
 
 pub returns : goal.returns
