@@ -60,6 +60,11 @@ fn refused_frames(rt: HostRuntime) -> Result<(), Fail> {
     assert_eq!(rt; check_frames(128, &[0, 2]), Err(HostRefused));
     assert_eq!(rt; check_frames(128, &[0]), Err(HostRefused));
     assert_eq!(rt; check_frames(100, &[0]), Err(HostRefused));
+    let text = format!(in rt.alloc(); "{HostRefused}")?;
+    assert_eq!(rt;
+        text.as_str(),
+        "the host offers what no store or engine can be made of"
+    );
     let mut memory = [0u64; 128];
     let paged = PagedStore::new(rt.alloc(), &mut memory, &[1, 1])?;
     assert_eq!(rt; paged.len(), 0);
