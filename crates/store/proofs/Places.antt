@@ -1,7 +1,7 @@
 -- Where the words of a paged store lie: each within the memory, no two at one place.
-use Rattle.std.proofs.Common.{◌≡◌, ℕ, ◌*◌, ◌/◌, ◌%◌, ◌<◌, ◌≤◌, ◌≢◌, List, length, get_or, set, sym, ap, ◌∙◌, inl, inr, arith, length-set, get_or-set_other, get_or-set_same}
+use Rattle.std.proofs.Common.{◌≡◌, ℕ, ◌*◌, ◌/◌, ◌%◌, ◌<◌, ◌≢◌, List, length, get_or, set, sym, ap, ◌∙◌, inl, inr, arith, length-set, get_or-set_other, get_or-set_same}
 use Rattle.std.proofs.lemmas.List.FromFn.{get_or-map-range_with_len}
-use Rattle.std.proofs.lemmas.List.{ext_get_or, get_or_read}
+use Rattle.std.proofs.lemmas.List.{ext_get_or}
 use Rattle.std.proofs.lemmas.Bool.{cases_eq, cases_order}
 use Rattle.store.specs.Frames.{place_of, page_words, Below, Different}
 use Rattle.store.specs.Paging.{length-page_words}
@@ -64,12 +64,3 @@ page_words_set memory frames w v apart h room =
           ∙ sym (get_or-page_words memory frames i il)
           ∙ sym (get_or-set_other (page_words memory frames) w i v 0 ne)
     ])
-
--- what is read of the frames is the frame of the word's page, and a low number
-pub frame_low : (frames : List ℕ) (n w f : ℕ) → Below frames n → n ≡ length frames → n ≤ 1024
-    → w < 64 * n → f ≡ get_or frames (w / 64) f → (f ≡ get_or frames (w / 64) 0) × (f < 1024)
-frame_low frames n w f below long few h read =
-    let page : w / 64 < length frames = omega arith in
-    let is = get_or_read frames (w / 64) f page read 0 in
-    let low = below (w / 64) page in
-    (is, omega arith)

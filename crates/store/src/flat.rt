@@ -33,13 +33,10 @@ impl<'a> Store for FlatStore<'a> {
     }
 
     fn read(&self, w: u64) -> Result<u64, StoreFault> {
-        if !self.is_open(w) {
-            return Err(StoreFault {
-                cause: Cause::Beyond,
-                word: w,
-            });
-        }
-        Ok(self.words[w as usize])
+        self.words
+            .get(w as usize)
+            .copied()
+            .ok_or(StoreFault::new(Cause::Beyond, w))
     }
 
     fn is_open(&self, w: u64) -> bool {
@@ -52,11 +49,9 @@ impl<'a> Store for FlatStore<'a> {
         ensures lent { self.new.words.ghost_name ≡ self.old.words.ghost_name }
     {
         if !self.is_open(w) {
-            return Err(StoreFault {
-                cause: Cause::Beyond,
-                word: w,
-            });
+            return Err(StoreFault::new(Cause::Beyond, w));
         }
+        // By index: after `get_mut` of a slice a proof knows no element.
         self.words[w as usize] = v;
         Ok(())
     }
@@ -66,10 +61,6 @@ impl<'a> Store for FlatStore<'a> {
         ensures after { flat_of self.new.words.now ≡ door_set (flat_of self.old.words.now) page «open» }
         ensures lent { self.new.words.ghost_name ≡ self.old.words.ghost_name }
     {
-        if page < self.len() / 64 {
-            Err(Cause::Fixed)
-        } else {
-            Err(Cause::Beyond)
-        }
+        Err(Cause::of_fixed_door(self.len(), page))
     }
 }

@@ -1,13 +1,24 @@
 // The check of frames before a paged store is made.
-ghost use Rattle.std.specs.Prelude.{◌≡◌, ◌<◌, length, MatchBool, MatchResult};
+ghost use Rattle.std.specs.Prelude.{◌≡◌, MatchBool, MatchResult};
 ghost use Rattle.store.specs.Frames.{Fit, Below, Fresh, Different};
 
+use std::error::Error;
+use std::fmt;
+
 // The host offers what no store or engine can be made of.
-#[derive(Clone, Copy)]
+#[derive(Clone, Copy, Debug, PartialEq, Eq, Hash)]
 pub struct HostRefused;
 
+impl fmt::Display for HostRefused {
+    fn fmt<W: fmt::Write>(&self, f: &mut fmt::Formatter<W>) -> fmt::Result {
+        f.write_str("the host offers what no store or engine can be made of")
+    }
+}
+
+impl Error for HostRefused {}
+
 impl HostRefused {
-    // The number of this refusal.
+    // The number of this refusal. It stays a method, since a lone error has no variants to number.
     pub fn number(self) -> u64
         ensures { result ≡ 17 }
     {
@@ -15,25 +26,13 @@ impl HostRefused {
     }
 }
 
-// Whether no earlier page has the frame of page `i`.
-fn fresh(frames: &[u64], i: usize) -> bool
-    requires { i < length frames.now }
-    ensures { MatchBool result (Fresh frames.now i) (Fresh frames.now i → ⊥) }
-{
-    for k in 0..i {
-        if frames[k] == frames[i] {
-            return false;
-        }
-    }
-    true
-}
-
 // Whether the frames are all below `n` and all different.
 fn sound(n: u64, frames: &[u64]) -> bool
     ensures { MatchBool result (Below frames.now n × Different frames.now) (Below frames.now n → Different frames.now → ⊥) }
 {
-    for i in 0..frames.len() {
-        if frames[i] >= n || !fresh(frames, i) {
+    // A loop: its invariant is a line, where `all` over the same chain leaves a goal.
+    for (i, frame) in frames.iter().enumerate() {
+        if *frame >= n || frames[..i].contains(frame) {
             return false;
         }
     }
@@ -45,11 +44,10 @@ fn sound(n: u64, frames: &[u64]) -> bool
 pub fn check_frames(length: u64, frames: &[u64]) -> Result<(), HostRefused>
     ensures { MatchResult result (λ _. Fit length frames.now) (λ _. Fit length frames.now → ⊥) }
 {
-    if length < 64 || length > 65536 || length % 64 != 0 {
-        return Err(HostRefused);
-    }
-    if frames.len() as u64 != length / 64 || !sound(length / 64, frames) {
-        return Err(HostRefused);
-    }
-    Ok(())
+    let pages = length / 64;
+    let fits = (64..=65536).contains(&length)
+        && length % 64 == 0
+        && frames.len() as u64 == pages
+        && sound(pages, frames);
+    if fits { Ok(()) } else { Err(HostRefused) }
 }

@@ -1,5 +1,5 @@
 // Words kept as two halves of 32 bits each. The doors do not move.
-ghost use Rattle.std.specs.Prelude.{◌≡◌, ◌<◌, map, length, replicate, IfOk, vec_len, slice_index, slice_set};
+ghost use Rattle.std.specs.Prelude.{◌≡◌, replicate, IfOk};
 ghost use Rattle.tests_store.specs.Halves.{word_of, halved_of, halves_bounded, halves_flagged};
 
 use std::alloc::{AllocError, Global};
@@ -8,10 +8,29 @@ use store::{Cause, Store, StoreFault};
 // The number of values of one half.
 const HALF: u64 = 4294967296;
 
-#[derive(Clone, Copy)]
+#[derive(Clone, Copy, Debug, PartialEq, Eq, Hash)]
 pub struct Halves {
     pub high: u32,
     pub low: u32,
+}
+
+impl From<Halves> for u64 {
+    ghost from_gives = { λ h word. word ≡ word_of h };
+
+    fn from(halves: Halves) -> u64 {
+        u64::from(halves.high) * HALF + u64::from(halves.low)
+    }
+}
+
+impl From<u64> for Halves {
+    ghost from_gives = { λ word h. word_of h ≡ word };
+
+    fn from(word: u64) -> Halves {
+        Halves {
+            high: (word / HALF) as u32,
+            low: (word % HALF) as u32,
+        }
+    }
 }
 
 #[derive(Drop)]
@@ -27,33 +46,6 @@ impl HalfStore {
         let halves = vec![in heap; Halves { high: 0, low: 0 }; length]?;
         Ok(HalfStore { halves })
     }
-
-    fn count(&self) -> u64
-        ensures halves { result ≡ vec_len self.now.halves }
-        ensures words { result ≡ length (map word_of self.now.halves.items) }
-    {
-        self.halves.len() as u64
-    }
-
-    // Word `w`, from its halves.
-    fn joined(&self, w: u64) -> u64
-        requires { w < vec_len self.now.halves }
-        ensures { result ≡ slice_index (map word_of self.now.halves.items) w }
-    {
-        let Halves { high, low } = self.halves[w as usize];
-        high as u64 * HALF + low as u64
-    }
-
-    // Puts `v` at word `w`, as two halves.
-    fn split(&mut self, w: u64, v: u64)
-        requires { w < vec_len self.old.halves }
-        ensures { map word_of self.new.halves.items ≡ slice_set (map word_of self.old.halves.items) w v }
-    {
-        self.halves[w as usize] = Halves {
-            high: (v / HALF) as u32,
-            low: (v % HALF) as u32,
-        };
-    }
 }
 
 impl Store for HalfStore {
@@ -64,39 +56,31 @@ impl Store for HalfStore {
     ghost flagged = { λ s. halves_flagged s.halves.items };
 
     fn len(&self) -> u64 {
-        self.count()
+        self.halves.len() as u64
     }
 
     fn read(&self, w: u64) -> Result<u64, StoreFault> {
-        if w >= self.count() {
-            return Err(StoreFault {
-                cause: Cause::Beyond,
-                word: w,
-            });
-        }
-        Ok(self.joined(w))
+        self.halves
+            .get(w as usize)
+            .map(|halves| u64::from(*halves))
+            .ok_or(StoreFault::new(Cause::Beyond, w))
     }
 
     fn is_open(&self, w: u64) -> bool {
-        w < self.count()
+        w < self.len()
     }
 
+    #[tactic(auto, using(crate::proofs::Words::one_word))]
     fn write(&mut self, w: u64, v: u64) -> Result<(), StoreFault> {
-        if w >= self.count() {
-            return Err(StoreFault {
-                cause: Cause::Beyond,
-                word: w,
-            });
-        }
-        self.split(w, v);
+        let halves = self
+            .halves
+            .get_mut(w as usize)
+            .ok_or(StoreFault::new(Cause::Beyond, w))?;
+        *halves = Halves::from(v);
         Ok(())
     }
 
     fn set_door(&mut self, page: u64, _open: bool) -> Result<(), Cause> {
-        if page < self.count() / 64 {
-            Err(Cause::Fixed)
-        } else {
-            Err(Cause::Beyond)
-        }
+        Err(Cause::of_fixed_door(self.len(), page))
     }
 }

@@ -1,13 +1,21 @@
 // Making a paged store, and its calls.
-ghost use Rattle.std.specs.Prelude.{◌≡◌, ◌*◌, ◌<◌, ◌≤◌, length, IfOk, vec_len, slice_set};
+ghost use Rattle.std.specs.Prelude.{◌≡◌, ◌*◌, ◌<◌, ◌≤◌, length, IfOk, MatchOption, vec_len, slice_set};
 ghost use Rattle.store.specs.Frames.{Fit, no_words};
-ghost use Rattle.store.specs.Paged.{meaning_of, words_of, found_of, landed, Lies, Laid};
+ghost use Rattle.store.specs.Pages.{Opened};
+ghost use Rattle.store.specs.Paged.{meaning_of, words_of, store_frames, store_doors, found_of, landed, Lies, IsPageOf, Laid};
 ghost use Rattle.store.specs.Paging.{words_bounded, words_flagged};
 ghost use Rattle.store.specs.Rules.{write_of, written, door_of, door_set};
 
-use super::PagedStore;
-use crate::{Cause, Store, StoreFault, check_frames};
+use super::{Page, PagedStore};
+use crate::{Cause, HostRefused, Store, StoreFault, check_frames};
 use std::alloc::{AllocError, Global};
+
+// A page for each frame, with every door open.
+fn opened(heap: Global, frames: &[u64]) -> Result<Vec<Page>, AllocError>
+    ensures { IfOk result (λ pages. Opened frames.now pages.items) }
+{
+    frames.iter().copied().map(Page::new).collect(heap)
+}
 
 impl<'a> PagedStore<'a> {
     // Frames that are refused make a store of no words.
@@ -22,28 +30,30 @@ impl<'a> PagedStore<'a> {
     {
         match check_frames(memory.len() as u64, frames) {
             Ok(()) => {
-                let doors = vec![in heap; true; frames.len()]?;
-                let frames = Vec::from_slice(heap, frames)?;
-                Ok(PagedStore {
-                    memory,
-                    frames,
-                    doors,
-                })
+                let pages = opened(heap, frames)?;
+                Ok(PagedStore { memory, pages })
             }
-            Err(_) => Ok(PagedStore {
+            Err(HostRefused) => Ok(PagedStore {
                 memory,
-                frames: Vec::new(heap),
-                doors: Vec::new(heap),
+                pages: Vec::new(heap),
             }),
         }
     }
 
-    fn pages(&self) -> u64
-        ensures frames { result ≡ vec_len self.now.frames }
+    // How many pages there are.
+    fn count(&self) -> u64
+        ensures pages { result ≡ vec_len self.now.pages }
         ensures words { length (words_of self.now) ≡ 64 * result }
         ensures few { result ≤ 1024 }
     {
-        self.frames.len() as u64
+        self.pages.len() as u64
+    }
+
+    // The page of word `w`, if it is there.
+    fn page(&self, w: u64) -> Option<Page>
+        ensures { MatchOption result (length (words_of self.now) ≤ w) (IsPageOf self.now w) }
+    {
+        self.pages.get((w / 64) as usize).copied()
     }
 
     // The place of word `w`, if its page is there and open.
@@ -51,51 +61,44 @@ impl<'a> PagedStore<'a> {
         ensures answer { result ≡ found_of self.now w }
         ensures found { IfOk result (λ p. Lies self.now w p) }
     {
-        if w / 64 >= self.pages() {
-            return Err(StoreFault {
-                cause: Cause::Beyond,
-                word: w,
-            });
+        match self.page(w) {
+            None => Err(StoreFault::new(Cause::Beyond, w)),
+            Some(page) if page.open => Ok((page.frame * 64 + w % 64) as usize),
+            Some(_) => Err(StoreFault::new(Cause::Shut, w)),
         }
-        if !self.doors[(w / 64) as usize] {
-            return Err(StoreFault {
-                cause: Cause::Shut,
-                word: w,
-            });
-        }
-        Ok(self.place(w))
     }
 
     // Writes `v` to word `w`, which lies at `place`.
     fn put(&mut self, w: u64, place: usize, v: u64)
         requires { Lies self.old w place }
         ensures words { words_of self.new ≡ slice_set (words_of self.old) w v }
-        ensures frames { self.new.frames ≡ self.old.frames }
-        ensures doors { self.new.doors ≡ self.old.doors }
+        ensures pages { self.new.pages ≡ self.old.pages }
         ensures lands { self.new.memory.now ≡ slice_set self.old.memory.now place v }
         ensures lent { self.new.memory.ghost_name ≡ self.old.memory.ghost_name }
     {
         self.memory[place] = v;
     }
 
-    // Where word `w` lies.
-    fn place(&self, w: u64) -> usize
-        requires { w < 64 * vec_len self.now.frames }
-        ensures { Lies self.now w result }
+    // Opens or shuts page `page`.
+    fn turn(&mut self, page: u64, open: bool)
+        requires { page < vec_len self.old.pages }
+        ensures frames { store_frames self.new ≡ store_frames self.old }
+        ensures doors { store_doors self.new ≡ slice_set (store_doors self.old) page «open» }
+        ensures memory { self.new.memory ≡ self.old.memory }
     {
-        (self.frames[(w / 64) as usize] * 64 + w % 64) as usize
+        self.pages[page as usize].open = open;
     }
 }
 
 impl<'a> Store for PagedStore<'a> {
     ghost meaning = { meaning_of };
 
-    ghost bounded = { λ s. words_bounded s.memory.now s.frames s.few };
+    ghost bounded = { λ s. words_bounded s.memory.now s.pages s.few };
 
-    ghost flagged = { λ s. words_flagged s.memory.now s.frames s.doors s.doored };
+    ghost flagged = { λ s. words_flagged s.memory.now s.pages.items };
 
     fn len(&self) -> u64 {
-        self.pages() * 64
+        self.count() * 64
     }
 
     fn read(&self, w: u64) -> Result<u64, StoreFault> {
@@ -104,7 +107,7 @@ impl<'a> Store for PagedStore<'a> {
     }
 
     fn is_open(&self, w: u64) -> bool {
-        w / 64 < self.pages() && self.doors[(w / 64) as usize]
+        self.page(w).is_some_and(|page| page.open)
     }
 
     fn write(&mut self, w: u64, v: u64) -> Result<(), StoreFault>
@@ -124,10 +127,10 @@ impl<'a> Store for PagedStore<'a> {
         ensures same { self.new.memory.now ≡ self.old.memory.now }
         ensures lent { self.new.memory.ghost_name ≡ self.old.memory.ghost_name }
     {
-        if page >= self.pages() {
+        if page >= self.count() {
             return Err(Cause::Beyond);
         }
-        self.doors[page as usize] = open;
+        self.turn(page, open);
         Ok(())
     }
 }
