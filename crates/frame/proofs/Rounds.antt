@@ -2,7 +2,9 @@
 use Rattle.std.proofs.Common.{◌≡◌, ℕ, ◌+◌, ◌-◌, ◌*◌, ◌%◌, ◌<◌, ◌≤◌, cond, eqb, ltb, ◌⊎◌, sym, ap, ◌∙◌, inl, inr, mod-eq_of_lt, arith}
 use native.Mathlib.Nat.{mod-eq-sub-mod}
 use Rattle.std.proofs.lemmas.Bool.{cases_lt, cases_eq, lt-ltb, le-ltb, eq-eqb, ne_eqb, cond-true, cond-false}
+use Rattle.frame.specs.declared.FrameMarker.{FrameMarker}
 use Rattle.frame.specs.Markers.{turned_once, Renames, Turns}
+use Rattle.frame.specs.Fields.{RenamesUnder}
 
 -- i moved up by k within a round of n, where i is in the round
 abbrev along : ℕ → ℕ → ℕ → ℕ
@@ -44,7 +46,7 @@ kept n k i sof room le lt =
       | inr high ↦ (omega (arith, outside n k i high), ap (along n (n - k)) (outside n k i high) ∙ outside n (n - k) i high)
     ]
 
-pub renames : (sof sor rotation : ℕ) → 8 * sor ≤ sof → rotation ≤ 8 * sor → Renames sof sor rotation
+renames : (sof sor rotation : ℕ) → 8 * sor ≤ sof → rotation ≤ 8 * sor → Renames sof sor rotation
 renames sof sor rotation room le =
     let n : ℕ = 8 * sor in
     let twice : n - (n - rotation) ≡ rotation = omega arith in (
@@ -52,6 +54,9 @@ renames sof sor rotation room le =
       (λ d lt. let back = kept n (n - rotation) d sof room (omega arith) lt in
           (back.0, ap (λ k. along n k (along n (n - rotation) d)) (sym twice) ∙ back.1)),
     )
+
+pub renames_under : (m : FrameMarker) → RenamesUnder m
+renames_under m = renames m.sof m.sor m.rotation m.rotating (omega (arith, m.turned))
 
 step : (n before after i : ℕ) → i < n → before < n → ((before ≡ 0) × (after ≡ n - 1)) ⊎ (before ≡ after + 1)
     → along n after ((i + 1) % n) ≡ along n before i
@@ -83,12 +88,12 @@ step n before after i lt round way =
           ]
     ]
 
-pub turns : (sor rotation : ℕ) → rotation ≤ 8 * sor - 1 → Turns sor rotation (turned_once sor rotation)
-turns sor rotation le i lt =
+pub turns : (sor rotation after : ℕ) → rotation ≤ 8 * sor - 1 → after ≡ turned_once sor rotation → Turns sor rotation after
+turns sor rotation after le is i lt =
     let n : ℕ = 8 * sor in
     elim (cases_eq rotation 0) [
-      | inl e ↦ step n rotation (turned_once sor rotation) i lt (omega arith)
-          (inl (e, cond-true (eqb rotation 0) (n - 1) (rotation - 1) (eq-eqb rotation 0 e)))
-      | inr ne ↦ let down : turned_once sor rotation ≡ rotation - 1 = cond-false (eqb rotation 0) (n - 1) (rotation - 1) (ne_eqb rotation 0 ne) in
-          step n rotation (turned_once sor rotation) i lt (omega arith) (inr (omega arith))
+      | inl e ↦ let round : after ≡ n - 1 = is ∙ cond-true (eqb rotation 0) (n - 1) (rotation - 1) (eq-eqb rotation 0 e) in
+          step n rotation after i lt (omega arith) (inl (e, round))
+      | inr ne ↦ let down : after ≡ rotation - 1 = is ∙ cond-false (eqb rotation 0) (n - 1) (rotation - 1) (ne_eqb rotation 0 ne) in
+          step n rotation after i lt (omega arith) (inr (omega arith))
     ]

@@ -1,12 +1,12 @@
 // Making a frame marker, and reading its fields and its word.
-ghost use Rattle.std.specs.Prelude.{◌≡◌, true};
-ghost use Rattle.frame.specs.Markers.{lawful_word};
-ghost use Rattle.frame.specs.Fields.{word_of, Parts, PartsOfWord, MadeOfParts, MadeOfWord};
+ghost use Rattle.std.specs.Prelude.{◌≡◌};
+ghost use Rattle.frame.specs.Fields.{Parts, MadeOfParts, MadeOfWord, WordGiven};
 
-use super::FrameMarker;
+use super::{FrameMarker, UnlawfulMarker};
 
 impl FrameMarker {
     // The marker of a frame without registers.
+    // No `Default`: none can be derived beside ghost fields, and one by hand is no plainer.
     pub fn empty() -> FrameMarker
         ensures { Parts result 0 0 0 0 }
     {
@@ -19,48 +19,26 @@ impl FrameMarker {
     }
 
     // The marker with these fields, where they are lawful.
-    pub fn from_parts(sof: u64, sol: u64, sor: u64, rotation: u64) -> Option<FrameMarker>
+    pub fn from_parts(
+        sof: u64,
+        sol: u64,
+        sor: u64,
+        rotation: u64,
+    ) -> Result<FrameMarker, UnlawfulMarker>
         ensures { MadeOfParts result sof sol sor rotation }
     {
         if sof > 96 || sol > sof || sor > sof / 8 {
-            return None;
+            return Err(UnlawfulMarker);
         }
         if rotation >= 8 * sor && rotation != 0 {
-            return None;
+            return Err(UnlawfulMarker);
         }
-        Some(FrameMarker {
+        Ok(FrameMarker {
             sof: sof as u32,
             sol: sol as u32,
             sor: sor as u32,
             rotation: rotation as u32,
         })
-    }
-
-    // The marker with this word, where the word is lawful.
-    pub fn from_word(word: u64) -> Option<FrameMarker>
-        ensures { MadeOfWord result word }
-    {
-        if word >= 0x200_0000 {
-            return None;
-        }
-        FrameMarker::from_parts(
-            word % 128,
-            word / 0x80 % 128,
-            word / 0x4000 % 16,
-            word / 0x4_0000 % 128,
-        )
-    }
-
-    // The marker's word: sof in bits 0 to 6, sol in 7 to 13, sor in 14 to 17, rotation in 18 to 24.
-    pub fn word(&self) -> u64
-        ensures word { result ≡ word_of self.now }
-        ensures lawful { lawful_word result ≡ true }
-        ensures parts { PartsOfWord self.now result }
-    {
-        u64::from(self.sof)
-            + 0x80 * u64::from(self.sol)
-            + 0x4000 * u64::from(self.sor)
-            + 0x4_0000 * u64::from(self.rotation)
     }
 
     // The size of the frame.
@@ -89,5 +67,36 @@ impl FrameMarker {
         ensures { result ≡ self.now.rotation }
     {
         self.rotation
+    }
+}
+
+// The marker with this word, where the word is lawful.
+impl TryFrom<u64> for FrameMarker {
+    type Error = UnlawfulMarker;
+
+    ghost try_from_gives = { MadeOfWord };
+
+    fn try_from(word: u64) -> Result<FrameMarker, UnlawfulMarker> {
+        if word >= 0x200_0000 {
+            return Err(UnlawfulMarker);
+        }
+        FrameMarker::from_parts(
+            word % 128,
+            word / 0x80 % 128,
+            word / 0x4000 % 16,
+            word / 0x4_0000 % 128,
+        )
+    }
+}
+
+// The marker's word: sof in bits 0 to 6, sol in 7 to 13, sor in 14 to 17, rotation in 18 to 24.
+impl From<FrameMarker> for u64 {
+    ghost from_gives = { WordGiven };
+
+    fn from(marker: FrameMarker) -> u64 {
+        u64::from(marker.sof)
+            + 0x80 * u64::from(marker.sol)
+            + 0x4000 * u64::from(marker.sor)
+            + 0x4_0000 * u64::from(marker.rotation)
     }
 }

@@ -5,9 +5,12 @@ ghost use Rattle.std.specs.Prelude.{◌-◌, ◌*◌, ◌≤◌};
 
 mod fields;
 mod renaming;
+mod unlawful;
+
+pub use unlawful::UnlawfulMarker;
 
 // The size of a frame, of its locals and of its rotating part (in eights), and the rotation. No unlawful marker exists.
-#[derive(Clone, Copy)]
+#[derive(Clone, Copy, Debug, PartialEq, Eq)]
 pub struct FrameMarker {
     sof: u32,
     sol: u32,

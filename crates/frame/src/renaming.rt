@@ -7,11 +7,16 @@ use super::FrameMarker;
 
 impl FrameMarker {
     // Lowers the rotation by one, from 0 to 8·sor − 1; where sor is 0 it stays 0.
+    #[tactic(auto, using(crate::proofs::Rounds::turns))]
     pub fn rotate(&mut self)
         ensures parts { Rerotated self.old (turned_once self.old.sor self.old.rotation) self.new }
         ensures turns { Turns self.old.sor self.old.rotation self.new.rotation }
     {
-        self.rotation = self.turned();
+        self.rotation = if self.rotation > 0 {
+            self.rotation - 1
+        } else {
+            (8 * self.sor).saturating_sub(1)
+        };
     }
 
     // Sets the rotation to zero.
@@ -27,12 +32,6 @@ impl FrameMarker {
         ensures answer { result ≡ place_under self.now register }
         ensures renames { RenamesUnder self.now }
     {
-        self.offset(register)
-    }
-
-    fn offset(&self, register: u64) -> Option<u32>
-        ensures { result ≡ place_under self.now register }
-    {
         if register < 32 || register - 32 >= u64::from(self.sof) {
             return None;
         }
@@ -41,18 +40,5 @@ impl FrameMarker {
             return Some((index + self.rotation) % (8 * self.sor));
         }
         Some(index)
-    }
-
-    // The rotation lowered by one.
-    fn turned(&self) -> u32
-        ensures { result ≡ turned_once self.now.sor self.now.rotation }
-    {
-        if self.rotation > 0 {
-            self.rotation - 1
-        } else if self.sor > 0 {
-            8 * self.sor - 1
-        } else {
-            0
-        }
     }
 }

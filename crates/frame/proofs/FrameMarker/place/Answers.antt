@@ -1,8 +1,11 @@
-use Rattle.std.proofs.Common.{arith}
-use Rattle.frame.proofs.Rounds.{renames}
+use Rattle.frame.proofs.Rounds.{renames_under}
 use Rattle.frame.proofs.FrameMarker.place.Goals as goal
 
-pub returns : goal.returns
-returns c =
-    let m = c.args.self.now in
-    record { answer = c.offset.ensures; renames = renames m.sof m.sor m.rotation m.rotating (omega (arith, m.turned)) }
+pub returns-then-register-lt32-clause-renames : goal.returns-then-register-lt32-clause-renames
+returns-then-register-lt32-clause-renames c = renames_under c.args.self.now
+
+pub returns-then-index-self-clause-renames : goal.returns-then-index-self-clause-renames
+returns-then-index-self-clause-renames c = renames_under c.args.self.now
+
+pub returns-clause-renames : goal.returns-clause-renames
+returns-clause-renames c = renames_under c.args.self.now
