@@ -13,8 +13,8 @@ fn rotated() -> (Option<u32>, Option<u32>, Option<u32>)
     ensures { (result.0 ≡ Some 7) × (result.1 ≡ Some 0) × (result.2 ≡ Some 8) }
 {
     match FrameMarker::from_parts(9, 0, 1, 7) {
-        Some(marker) => (marker.place(32), marker.place(33), marker.place(40)),
-        None => unreachable(),
+        Ok(marker) => (marker.place(32), marker.place(33), marker.place(40)),
+        Err(_) => unreachable(),
     }
 }
 
@@ -29,9 +29,9 @@ fn markers() -> ([u32; 4], [u32; 4])
 fn fields(word: u64) -> [u32; 4]
     ensures { lawful_word word ≡ true → result ≡ sof_of word ∷ sol_of word ∷ sor_of word ∷ rotation_of word ∷ [] }
 {
-    match FrameMarker::from_word(word) {
-        Some(marker) => [marker.sof(), marker.sol(), marker.sor(), marker.rotation()],
-        None => [0; 4],
+    match FrameMarker::try_from(word) {
+        Ok(marker) => [marker.sof(), marker.sol(), marker.sor(), marker.rotation()],
+        Err(_) => [0; 4],
     }
 }
 
@@ -40,8 +40,8 @@ fn rotations() -> (bool, bool)
     ensures { (result.0 ≡ true) × (result.1 ≡ false) }
 {
     (
-        FrameMarker::from_parts(96, 96, 12, 95).is_some(),
-        FrameMarker::from_parts(96, 96, 12, 96).is_some(),
+        FrameMarker::from_parts(96, 96, 12, 95).is_ok(),
+        FrameMarker::from_parts(96, 96, 12, 96).is_ok(),
     )
 }
 
