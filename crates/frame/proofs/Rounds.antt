@@ -1,9 +1,9 @@
 -- Renaming is a bijection of a frame, and a rotation moves what a register shows to the next one.
-use Rattle.std.proofs.Common.{◌≡◌, ℕ, ◌+◌, ◌-◌, ◌*◌, ◌%◌, ◌<◌, ◌≤◌, cond, eqb, ltb, ◌⊎◌, sym, ap, ◌∙◌, inl, inr, mod-eq_of_lt, arith}
+use Rattle.std.proofs.Common.{◌≡◌, ℕ, ◌+◌, ◌-◌, ◌*◌, ◌%◌, ◌<◌, ◌≤◌, cond, ltb, ◌⊎◌, sym, ap, ◌∙◌, inl, inr, mod-eq_of_lt, arith}
 use native.Mathlib.Nat.{mod-eq-sub-mod}
-use Rattle.std.proofs.lemmas.Bool.{cases_lt, cases_eq, lt-ltb, le-ltb, eq-eqb, ne_eqb, cond-true, cond-false}
+use Rattle.std.proofs.lemmas.Bool.{cases_lt, lt-ltb, le-ltb, cond-true, cond-false}
 use Rattle.frame.specs.declared.FrameMarker.{FrameMarker}
-use Rattle.frame.specs.Markers.{turned_once, Renames, Turns}
+use Rattle.frame.specs.Markers.{Renames, Turns}
 use Rattle.frame.specs.Fields.{RenamesUnder}
 
 -- i moved up by k within a round of n, where i is in the round
@@ -88,12 +88,10 @@ step n before after i lt round way =
           ]
     ]
 
-pub turns : (sor rotation after : ℕ) → rotation ≤ 8 * sor - 1 → after ≡ turned_once sor rotation → Turns sor rotation after
-turns sor rotation after le is i lt =
-    let n : ℕ = 8 * sor in
-    elim (cases_eq rotation 0) [
-      | inl e ↦ let round : after ≡ n - 1 = is ∙ cond-true (eqb rotation 0) (n - 1) (rotation - 1) (eq-eqb rotation 0 e) in
-          step n rotation after i lt (omega arith) (inl (e, round))
-      | inr ne ↦ let down : after ≡ rotation - 1 = is ∙ cond-false (eqb rotation 0) (n - 1) (rotation - 1) (ne_eqb rotation 0 ne) in
-          step n rotation after i lt (omega arith) (inr (omega arith))
-    ]
+pub turned_round : (sor before after : ℕ) → before ≡ 0 → after ≡ 8 * sor - 1 → Turns sor before after
+turned_round sor before after first last i lt = step (8 * sor) before after i lt (omega arith) (inl (first, last))
+
+pub turned_down : (sor before after : ℕ) → before ≡ after + 1 → before ≤ 8 * sor - 1 → Turns sor before after
+turned_down sor before after down le i lt = step (8 * sor) before after i lt (omega arith) (inr down)
+
+pub ruleset turns = (turned_round, turned_down)
