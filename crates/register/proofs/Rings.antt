@@ -1,7 +1,7 @@
 -- What putting and clearing show, position by position.
-use Rattle.std.proofs.Common.{◌≡◌, ℕ, zero, suc, ◌+◌, ◌-◌, ◌*◌, ◌/◌, ◌%◌, ◌<◌, ◌≤◌, ◌≢◌, List, length, sym, refl, ap, ◌∙◌, inl, inr, mul-le-mul_right, mod-lt, add-mul, eq-zero-or-pos, div-add-mod', arith, length-set, get_or-set_other, get_or-set_same}
+use Rattle.std.proofs.Common.{◌≡◌, ℕ, zero, suc, ◌+◌, ◌-◌, ◌*◌, ◌/◌, ◌%◌, ◌<◌, ◌≤◌, ◌≢◌, List, length, sym, refl, ◌∙◌, inl, inr, mul-le-mul_right, mod-lt, add-mul, eq-zero-or-pos, div-add-mod', arith, length-set, get_or-set_other, get_or-set_same}
 use Rattle.std.proofs.lemmas.Bool.{cases_order}
-use Rattle.register.specs.Slots.{register_put, registers_cleared, cleared_slot, Near, PutShows, ClearShows}
+use Rattle.register.specs.Slots.{register_at, register_put, registers_cleared, cleared_slot, Near, PutShows, ClearShows}
 use Rattle.register.specs.declared.Slot.{Slot}
 
 below : (q r n : ℕ) → q < r → q * n + n ≤ r * n
@@ -25,12 +25,21 @@ differ n p q ne near =
     ]
 
 module _ {C : Type 0} where
-  pub put_shows : (nought : C) (slots : List (Slot C)) (p : ℕ) (s : Slot C) → PutShows nought slots p s (register_put slots p s)
-  put_shows nought slots p s = (
-    length-set slots (p % length slots) s,
-    (λ h. let lt : p % length slots < length slots = mod-lt p h in rw (length-set, get_or-set_same)),
-    (λ q ne near. let other : q % length slots ≢ p % length slots = differ (length slots) p q ne near in rw (length-set, get_or-set_other)),
-  )
+  pub put_length : (slots : List (Slot C)) (p : ℕ) (s : Slot C) → length (register_put slots p s) ≡ length slots
+  put_length slots p s = length-set slots (p % length slots) s
+
+  pub put_here : (nought : C) (slots : List (Slot C)) (p : ℕ) (s : Slot C) → 0 < length slots → register_at nought (register_put slots p s) p ≡ s
+  put_here nought slots p s h = let lt : p % length slots < length slots = mod-lt p h in rw (length-set, get_or-set_same)
+
+  pub put_other : (nought : C) (slots : List (Slot C)) (p : ℕ) (s : Slot C) (q : ℕ) → q ≢ p → Near (length slots) p q
+      → register_at nought (register_put slots p s) q ≡ register_at nought slots q
+  put_other nought slots p s q ne near = let other : q % length slots ≢ p % length slots = differ (length slots) p q ne near in rw (length-set, get_or-set_other)
+
+pub ruleset put_laws = (put_length, put_here, put_other)
+
+module _ {C : Type 0} where
+  put_shows : (nought : C) (slots : List (Slot C)) (p : ℕ) (s : Slot C) → PutShows nought slots p s (register_put slots p s)
+  put_shows nought slots p s = (put_length slots p s, put_here nought slots p s, put_other nought slots p s)
 
   pub clear_shows : (nought : C) (slots : List (Slot C)) (k p : ℕ) → ClearShows nought slots k p (registers_cleared nought k p slots)
   clear_shows nought slots zero p =
@@ -52,11 +61,3 @@ module _ {C : Type 0} where
         (λ q low room. put.2 q (λ e. omega arith) (omega arith, omega arith) ∙ before.2 q low (omega arith)),
         (λ q high room. put.2 q (λ e. omega arith) (omega arith, omega arith) ∙ before.3 q (omega arith) room),
       )
-
-  -- one position more
-  pub cleared_more : (nought : C) (slots : List (Slot C)) (low p : ℕ) → low ≤ p
-      → registers_cleared nought (p + 1 - low) low slots ≡ register_put (registers_cleared nought (p - low) low slots) p (cleared_slot nought)
-  cleared_more nought slots low p h =
-      let one : p + 1 - low ≡ suc (p - low) = omega arith in
-      let here : low + (p - low) ≡ p = omega arith in
-      ap (λ n. registers_cleared nought n low slots) one ∙ ap (λ n. register_put (registers_cleared nought (p - low) low slots) n (cleared_slot nought)) here
