@@ -2,10 +2,10 @@
 #![tactic(auto)]
 
 ghost use Rattle.std.specs.Prelude.{◌≡◌, ℕ, ◌+◌, ◌*◌, ◌/◌, ◌%◌, ◌^◌, ◌<◌, refl};
-ghost use Rattle.std.specs.Float.Ieee.{add, binary32};
-ghost use Rattle.register.specs.declared.word.Word.{Word};
-ghost use Rattle.register.specs.Contents.{word_of, word_sum, pair_of, pair_of_bits, pair_image, pair_sum, lane_bits};
+ghost use Rattle.register.specs.Contents.{word_of, word_sum, pair_of, pair_image, pair_sum, lane_bits};
 ghost use Rattle.register.specs.KindLaws.{word_restored, word_bounded, pair_restored, pair_blank, pair_bounded};
+
+use std::num::{f32_from_bits_with_nan, f32_to_bits_with_nan};
 
 mod pair;
 mod ring;
@@ -13,7 +13,6 @@ mod word;
 
 pub use pair::Pair;
 pub use ring::{clear_registers, put_register, register_at};
-use std::num::{f32_from_bits_with_nan, f32_to_bits_with_nan};
 pub use word::Word;
 
 // What a register can hold: a zero, a 64-bit image of each content, a content for each 64-bit word, and a sum.

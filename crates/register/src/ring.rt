@@ -4,12 +4,24 @@ ghost use Rattle.register.specs.Slots.{register_at, register_put, registers_clea
 
 use super::{Kind, Slot};
 
+impl<K: Kind> Slot<K> {
+    // The zero register, NaT clear.
+    pub fn cleared() -> Slot<K>
+        ensures { result ≡ cleared_slot K.zero_content }
+    {
+        Slot {
+            content: K::zero(),
+            nat: false,
+        }
+    }
+}
+
 // The register at a position; zero with NaT clear where the slice is empty.
 pub fn register_at<K: Kind>(slots: &[Slot<K>], position: u64) -> Slot<K>
     ensures { result ≡ register_at K.zero_content slots.now position }
 {
     if slots.is_empty() {
-        return cleared();
+        return Slot::cleared();
     }
     slots[(position % slots.len() as u64) as usize]
 }
@@ -34,16 +46,6 @@ pub fn clear_registers<K: Kind>(slots: &mut [Slot<K>], low: u64, high: u64)
     ensures shows { ClearShows K.zero_content slots.old (high - low) low slots.new }
 {
     for p in low..high {
-        put_register(slots, p, cleared());
-    }
-}
-
-// The zero register, NaT clear.
-fn cleared<K: Kind>() -> Slot<K>
-    ensures { result ≡ cleared_slot K.zero_content }
-{
-    Slot {
-        content: K::zero(),
-        nat: false,
+        put_register(slots, p, Slot::cleared());
     }
 }
