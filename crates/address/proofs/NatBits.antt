@@ -1,9 +1,10 @@
 -- Laws of NaT bits, by place value. Assumes nothing.
-use Rattle.std.proofs.Common.{◌≡◌, ℕ, zero, suc, ◌+◌, ◌-◌, ◌*◌, ◌/◌, ◌%◌, ◌^◌, ◌<◌, ◌≤◌, Bool, true, false, cond, sym, refl, ap, ◌∙◌, ⊎_elim, lt_of_lt_of_le, mod-eq_of_lt, add-mul, pow-suc, add-one, arith}
+use Rattle.std.proofs.Common.{◌≡◌, ℕ, zero, suc, ◌+◌, ◌-◌, ◌*◌, ◌/◌, ◌%◌, ◌^◌, ◌<◌, ◌≤◌, Bool, true, false, cond, sym, refl, ap, ◌∙◌, ⊎_elim, lt_of_lt_of_le, mod-eq_of_lt, pow-suc, add-one, arith}
 use native.Mathlib.Nat.{div-eq_of_lt, div_self, mod_self, add-mul-mod_self_right, mod-one}
 use lib.Bits.{bit_or, or_step, or_zero_r}
+use Rattle.std.proofs.lemmas.Grind.{common_steps}
 use Rattle.std.proofs.lemmas.Nat.{pow_pos, pow-add, shr_split, or_shr, or_mod, field_of, mod-pow-add, div-mul-add, pow_below}
-use Rattle.std.proofs.lemmas.Bool.{eqb-true, eqb-false, eq-eqb, ne_eqb, cases_lt}
+use Rattle.std.proofs.lemmas.Bool.{cases_lt}
 use Rattle.address.specs.NatBits.{bit, nat_bit, with_nat, nats_below, pack, nat_collection}
 
 -- ---- one bit
@@ -13,51 +14,42 @@ bit_below n i = omega arith
 
 -- a number below 2 ^ i has no bit i
 pub bit_high : (n i : ℕ) → n < 2 ^ i → bit n i ≡ 0
-bit_high n i h = let e : n / 2 ^ i ≡ 0 = div-eq_of_lt h in omega arith
+bit_high n i h = grind (arith, div-eq_of_lt)
 
 -- bit i as the top bit of those below i + 1
 pub bit_top : (n i : ℕ) → bit n i ≡ n % 2 ^ suc i / 2 ^ i
-bit_top n i = let e : n % 2 ^ (1 + i) / 2 ^ i ≡ n / 2 ^ i % 2 = field_of n 1 i in let s : 1 + i ≡ suc i = omega arith in sym (rw s at e)
+bit_top n i = grind (arith, field_of n 1 i)
 
 pub nat_bit_one : (b : Bool) (n i : ℕ) → bit n i ≡ cond b 1 0 → nat_bit n i ≡ b
-nat_bit_one true n i e = eq-eqb (bit n i) 1 e
-nat_bit_one false n i e = ne_eqb (bit n i) 1 (λ z. omega arith)
+nat_bit_one b n i e = grind (arith, common_steps)
 
 -- ---- setting a bit
 
 pub with_nat_low : (n i : ℕ) (b : Bool) → n < 2 ^ i → with_nat n i b ≡ n + cond b (2 ^ i) 0
-with_nat_low n i true h = let e : bit n i ≡ 0 = bit_high n i h in rw e (omega arith)
-with_nat_low n i false h = refl
+with_nat_low n i b h = grind (arith, common_steps, div-eq_of_lt)
 
 or_one : (m : ℕ) → bit_or m 1 ≡ m + (1 - m % 2)
-or_one m = or_step m 1 ∙ rw (or_zero_r) (omega arith)
+or_one m = grind (arith, or_step, or_zero_r)
 
 -- a bit is set by `|` with its place value
 pub or_bit : (n i : ℕ) → bit_or n (2 ^ i) ≡ n + (1 - bit n i) * 2 ^ i
 or_bit n i =
     let low : bit_or n (2 ^ i) % 2 ^ i ≡ n % 2 ^ i = or_mod n (2 ^ i) i ∙ ap (bit_or (n % 2 ^ i)) (mod_self (2 ^ i)) ∙ or_zero_r (n % 2 ^ i) in
     let high : bit_or n (2 ^ i) / 2 ^ i ≡ n / 2 ^ i + (1 - bit n i) = or_shr n (2 ^ i) i ∙ ap (bit_or (n / 2 ^ i)) (div_self (pow_pos i)) ∙ or_one (n / 2 ^ i) in
-    sym (shr_split (bit_or n (2 ^ i)) i) ∙ rw (low, high) (omega (arith, add-mul (n / 2 ^ i) (1 - bit n i) (2 ^ i), shr_split n i))
+    grind (arith, shr_split (bit_or n (2 ^ i)) i, shr_split n i)
 
 -- ---- packed bits
 
 pow_mono : (i j : ℕ) → i ≤ j → 2 ^ i ≤ 2 ^ j
-pow_mono i j h = ⊎_elim (λ l. omega (arith, pow_below i j l)) (λ (l : j ≤ i). let e : i ≡ j = omega arith in rw e (omega arith)) (cases_lt i j)
+pow_mono i j h = grind (arith, common_steps, pow_below)
 
 pub pack_below : (f : ℕ → Bool) (k : ℕ) → pack f k < 2 ^ k
-pack_below f zero = omega arith
-pack_below f (suc k) =
-    elim (f k) as (λ b. pack f k + cond b (2 ^ k) 0 < 2 ^ suc k) [
-      | true ↦ omega (arith, pack_below f k, pow-suc 2 k)
-      | false ↦ omega (arith, pack_below f k, pow-suc 2 k)
-    ]
+pack_below f zero = grind arith
+pack_below f (suc k) = grind (arith, common_steps, pow-suc, pack_below f k)
 
 pub pack_same : (f g : ℕ → Bool) (k : ℕ) → ((i : ℕ) → i < k → f i ≡ g i) → pack f k ≡ pack g k
 pack_same f g zero h = refl
-pack_same f g (suc k) h =
-    let e : pack f k ≡ pack g k = pack_same f g k (λ i l. h i (omega arith)) in
-    let b : f k ≡ g k = h k (omega arith) in
-    rw (e, b) refl
+pack_same f g (suc k) h = grind (arith, common_steps, pack_same f g k)
 
 pub pack_more : (f : ℕ → Bool) (k : ℕ) → with_nat (pack f k) k (f k) ≡ pack f (k + 1)
 pack_more f k = with_nat_low (pack f k) k (f k) (pack_below f k) ∙ ap (pack f) (sym (add-one k))
@@ -70,14 +62,13 @@ drop_high n j k true h =
 drop_high n j k false h = ap (λ x. x % 2 ^ j) (omega arith)
 
 pub pack-front : (f : ℕ → Bool) (k j : ℕ) → j ≤ k → pack f k % 2 ^ j ≡ pack f j
-pack-front f zero j h = let e : j ≡ 0 = omega arith in rw e refl
+pack-front f zero j h = grind arith
 pack-front f (suc k) j h =
     ⊎_elim (λ l. drop_high (pack f k) j k (f k) (omega arith) ∙ pack-front f k j (omega arith))
     (λ l. let e : j ≡ suc k = omega arith in rw e (mod-eq_of_lt (pack_below f (suc k)))) (cases_lt j (suc k))
 
 top_bit : (n i : ℕ) (b : Bool) → n < 2 ^ i → (n + cond b (2 ^ i) 0) / 2 ^ i ≡ cond b 1 0
-top_bit n i true h = ap (λ x. x / 2 ^ i) (omega arith) ∙ div-mul-add 1 (2 ^ i) n h
-top_bit n i false h = ap (λ x. x / 2 ^ i) (omega arith) ∙ div-eq_of_lt h
+top_bit n i b h = grind (arith, common_steps, div-mul-add, div-eq_of_lt)
 
 pub pack_bit : (f : ℕ → Bool) (k i : ℕ) → i < k → bit (pack f k) i ≡ cond (f i) 1 0
 pack_bit f k i h = bit_top (pack f k) i ∙ ap (λ x. x / 2 ^ i) (pack-front f k (suc i) h) ∙ top_bit (pack f i) i (f i) (pack_below f i)
@@ -105,21 +96,13 @@ pack_fits f k h = lt_of_lt_of_le (pack_below f k) (pow_mono k 64 h)
 -- ---- the bits of a number
 
 -- n % 2 ^ suc k is n % 2 ^ k with bit k before it
-bits_step : (n k : ℕ) (b : Bool) → nat_bit n k ≡ b → n % 2 ^ k + cond b (2 ^ k) 0 ≡ n % 2 ^ suc k
-bits_step n k true e =
-    let one : bit n k ≡ 1 = eqb-true (bit n k) 1 e in
-    let split : n % 2 ^ suc k ≡ bit n k * 2 ^ k + n % 2 ^ k = ap (λ x. n % 2 ^ x) (omega arith) ∙ mod-pow-add n 1 k in
-    sym (split ∙ rw one (omega arith))
-bits_step n k false e =
-    let other : (bit n k ≡ 1 → ⊥) = eqb-false (bit n k) 1 e in
-    let none : bit n k ≡ 0 = omega (arith, bit_below n k) in
-    let split : n % 2 ^ suc k ≡ bit n k * 2 ^ k + n % 2 ^ k = ap (λ x. n % 2 ^ x) (omega arith) ∙ mod-pow-add n 1 k in
-    sym (split ∙ rw none (omega arith))
+bits_split : (n k : ℕ) → n % 2 ^ suc k ≡ bit n k * 2 ^ k + n % 2 ^ k
+bits_split n k = ap (λ x. n % 2 ^ x) (omega arith) ∙ mod-pow-add n 1 k
 
 -- a number is the pack of its bits
 pub pack_bits : (n k : ℕ) → pack (nat_bit n) k ≡ n % 2 ^ k
-pack_bits n zero = omega arith
-pack_bits n (suc k) = ap (λ x. x + cond (nat_bit n k) (2 ^ k) 0) (pack_bits n k) ∙ bits_step n k (nat_bit n k) refl
+pack_bits n zero = grind arith
+pack_bits n (suc k) = grind (arith, common_steps, bits_split n k, pack_bits n k)
 
 pub pack_whole : (n k : ℕ) → n < 2 ^ k → pack (nat_bit n) k ≡ n
 pack_whole n k h = pack_bits n k ∙ mod-eq_of_lt h
@@ -132,3 +115,6 @@ nats_below_none n = mod-one n
 
 pub nats_below_twice : (n i j : ℕ) → i ≤ j → nats_below (nats_below n j) i ≡ nats_below n i
 nats_below_twice n i j h = ap (λ x. nats_below x i) (sym (pack_bits n j)) ∙ pack-front (nat_bit n) j i h ∙ pack_bits n i
+
+-- what `place_value` says
+pub ruleset nat_laws = (pack_below, pack_bit, pack_nat, pack-front, pack_same, pack_more, collection_top, pack_whole)

@@ -1,12 +1,15 @@
 // Words of the backing store: addresses of stack positions, groups, NaT collections and their bits.
 #![tactic(auto)]
 
-ghost use Rattle.std.specs.Prelude.{◌≡◌, ℕ, ◌+◌, ◌%◌, ◌^◌, ◌≤◌, true};
+ghost use Rattle.std.specs.Prelude.{◌≡◌, ℕ, ◌+◌, ◌%◌, ◌^◌, ◌≤◌};
 ghost use Rattle.address.specs.Addresses.{address_of, group_of, is_collection, collection_of, positions_below, capacity_of};
 ghost use Rattle.address.specs.AddressLaws.{Aligned, next_register, registers_among, Increasing, Apart, Neighbours, Counted, Found, Monotone, Steps};
 ghost use Rattle.address.specs.AddressLaws.{PositionAt, CollectionOrNot, Region, Among, LastOfGroup, BitPlaces};
 ghost use Rattle.address.specs.NatBits.{nat_bit, with_nat, nats_below};
 ghost use Rattle.address.specs.NatLaws.{Fresh, Bounded, Placed, Cut, Local, Extended, TopClear, Whole};
+
+// Four contracts say what holds of an aligned start by a premise: a type for it would ask more of callers.
+// Start and position, bits and word stay plain numbers: callers hold them apart, and a record would be made for one call.
 
 // The word of a stack position, in a region that begins at word `start`.
 pub fn address_of(start: u32, position: u32) -> u64
@@ -58,18 +61,12 @@ pub fn nat_bit(bits: u64, word: u64) -> bool
     (bits >> bit_place(word)) % 2 == 1
 }
 
-// `bits` with the bit of `word` set.
-fn with_bit(bits: u64, word: u64) -> u64
-    ensures { result ≡ with_nat bits (word % 64) true }
-{
-    bits | place_value(word)
-}
-
 // `bits` with the bit of `word` set where `nat` says so.
+#[tactic(auto, using(crate::proofs::NatBits::or_bit))]
 pub fn with_nat(bits: u64, word: u64, nat: bool) -> u64
     ensures { result ≡ with_nat bits (word % 64) nat }
 {
-    if nat { with_bit(bits, word) } else { bits }
+    if nat { bits | place_value(word) } else { bits }
 }
 
 // The bits of `bits` that belong to words of the group below `word`.
@@ -132,19 +129,8 @@ pub fn bit_place(word: u64) -> u64
     word % 64
 }
 
-// The laws of packed NaT bits; nothing is computed.
-fn nat_laws()
-    ensures fresh { Fresh }
-    ensures bounded { Bounded }
-    ensures placed { Placed }
-    ensures cut { Cut }
-    ensures local { Local }
-    ensures extended { Extended }
-    ensures clear { TopClear }
-    ensures whole { Whole }
-{}
-
 // What the bit of a word is worth in its collection.
+#[tactic(auto, using(crate::proofs::NatBits::nat_laws))]
 pub fn place_value(word: u64) -> u64
     ensures value { result ≡ 2 ^ (word % 64) }
     ensures fresh { Fresh }
@@ -156,6 +142,5 @@ pub fn place_value(word: u64) -> u64
     ensures clear { TopClear }
     ensures whole { Whole }
 {
-    nat_laws();
     1 << bit_place(word)
 }

@@ -1,5 +1,5 @@
 -- Frame markers as numbers: the fields of a word, what is lawful, and where a frame's registers stand.
-use Rattle.std.specs.Prelude.{◌≡◌, ℕ, ◌+◌, ◌-◌, ◌*◌, ◌/◌, ◌%◌, ◌^◌, ◌<◌, Bool, cond, ◌&&◌, ◌||◌, Some, None, Option, ◌==◌, nat_le, nat_lt}
+use Rattle.std.specs.Prelude.{◌≡◌, ℕ, ◌+◌, ◌-◌, ◌*◌, ◌/◌, ◌%◌, ◌^◌, ◌<◌, Bool, if◌then◌else◌, ◌&&◌, ◌||◌, Some, None, Option, ◌==◌, nat_le, nat_lt}
 
 -- the size of the frame: bits 0 to 6
 abbrev pub sof_of : ℕ → ℕ
@@ -31,15 +31,15 @@ word_of_parts sof sol sor rotation = sof + 2 ^ 7 * sol + 2 ^ 14 * sor + 2 ^ 18 *
 
 -- the rotation lowered by one: from 0 to 8·sor − 1, and 0 stays where sor is 0
 abbrev pub turned_once : ℕ → ℕ → ℕ
-turned_once sor rotation = cond (rotation == 0) (8 * sor - 1) (rotation - 1)
+turned_once sor rotation = if rotation == 0 then 8 * sor - 1 else rotation - 1
 
 -- how far above base the frame's register i (register 32 + i) stands
 abbrev pub offset_of : ℕ → ℕ → ℕ → ℕ
-offset_of sor rotation i = cond (nat_lt i (8 * sor)) ((i + rotation) % (8 * sor)) i
+offset_of sor rotation i = if nat_lt i (8 * sor) then (i + rotation) % (8 * sor) else i
 
 -- which of the frame's registers stands so far above base
 abbrev pub index_of : ℕ → ℕ → ℕ → ℕ
-index_of sor rotation d = cond (nat_lt d (8 * sor)) ((d + (8 * sor - rotation)) % (8 * sor)) d
+index_of sor rotation d = if nat_lt d (8 * sor) then (d + (8 * sor - rotation)) % (8 * sor) else d
 
 -- whether register r lies in the frame
 abbrev pub in_frame : ℕ → ℕ → Bool
@@ -47,7 +47,7 @@ in_frame sof r = nat_le 32 r && nat_lt (r - 32) sof
 
 -- how far above base register r stands, if it lies in the frame
 abbrev pub place_of : ℕ → ℕ → ℕ → ℕ → Option ℕ
-place_of sof sor rotation r = cond (in_frame sof r) (Some (offset_of sor rotation (r - 32))) None
+place_of sof sor rotation r = if in_frame sof r then Some (offset_of sor rotation (r - 32)) else None
 
 -- renaming is a bijection of the frame's registers onto 0 .. sof − 1: `index_of` undoes it, both ways round
 abbrev pub Renames : ℕ → ℕ → ℕ → Type 0

@@ -7,7 +7,7 @@ use super::FrameMarker;
 
 impl FrameMarker {
     // Lowers the rotation by one, from 0 to 8·sor − 1; where sor is 0 it stays 0.
-    #[tactic(auto, using(crate::proofs::Rounds::turns))]
+    #[tactic(auto, using(crate::proofs::Rounds::rounds))]
     pub fn rotate(&mut self)
         ensures parts { Rerotated self.old (turned_once self.old.sor self.old.rotation) self.new }
         ensures turns { Turns self.old.sor self.old.rotation self.new.rotation }
@@ -28,6 +28,7 @@ impl FrameMarker {
 
     // How far above base the register stands; none where it is outside the frame.
     // The frame's registers stand at 0 to sof − 1, one at each place.
+    #[tactic(auto, using(crate::proofs::Rounds::rounds))]
     pub fn place(&self, register: u64) -> Option<u32>
         ensures answer { result ≡ place_under self.now register }
         ensures renames { RenamesUnder self.now }

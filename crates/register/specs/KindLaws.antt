@@ -28,7 +28,4 @@ unfolding pair_of_bits
 pair_blank = ap (λ n. n + 2 ^ 32 * n) (lane_bits_lem 0 (omega arith))
 
 pub pair_bounded : (c : Pair) → pair_image c < 2 ^ 64
-pair_bounded c =
-    let low : to_bits binary32 c.first < 2 ^ 32 = to_bits-lt binary32 c.first c.low in
-    let high : to_bits binary32 c.second < 2 ^ 32 = to_bits-lt binary32 c.second c.high in
-    omega arith
+pair_bounded c = omega (arith, to_bits-lt binary32 c.first c.low, to_bits-lt binary32 c.second c.high)

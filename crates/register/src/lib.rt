@@ -2,10 +2,10 @@
 #![tactic(auto)]
 
 ghost use Rattle.std.specs.Prelude.{◌≡◌, ℕ, ◌+◌, ◌*◌, ◌/◌, ◌%◌, ◌^◌, ◌<◌, refl};
-ghost use Rattle.std.specs.Float.Ieee.{add, binary32};
-ghost use Rattle.register.specs.declared.word.Word.{Word};
-ghost use Rattle.register.specs.Contents.{word_of, word_sum, pair_of, pair_of_bits, pair_image, pair_sum, lane_bits};
+ghost use Rattle.register.specs.Contents.{word_of, word_sum, pair_of, pair_image, pair_sum, lane_bits};
 ghost use Rattle.register.specs.KindLaws.{word_restored, word_bounded, pair_restored, pair_blank, pair_bounded};
+
+use std::num::{f32_from_bits_with_nan, f32_to_bits_with_nan};
 
 mod pair;
 mod ring;
@@ -13,7 +13,6 @@ mod word;
 
 pub use pair::Pair;
 pub use ring::{clear_registers, put_register, register_at};
-use std::num::{f32_from_bits_with_nan, f32_to_bits_with_nan};
 pub use word::Word;
 
 // What a register can hold: a zero, a 64-bit image of each content, a content for each 64-bit word, and a sum.
@@ -46,7 +45,7 @@ pub trait Kind: Copy {
 }
 
 // A register: its content and its NaT bit.
-#[derive(Clone, Copy)]
+#[derive(Clone, Copy, Debug, PartialEq, Eq)]
 pub struct Slot<C> {
     pub content: C,
     pub nat: bool,
@@ -69,7 +68,7 @@ impl Kind for Word {
     ghost bounded = { word_bounded };
 
     fn zero() -> Word {
-        word_with(0)
+        Word { value: 0 }
     }
 
     fn image(self) -> u64 {
@@ -77,15 +76,18 @@ impl Kind for Word {
     }
 
     fn of_word(word: u64) -> Word {
-        word_with(word)
+        Word { value: word }
     }
 
     fn sum(self, other: Word) -> Word {
-        word_with(self.value.wrapping_add(other.value))
+        Word {
+            value: self.value.wrapping_add(other.value),
+        }
     }
 }
 
 // The low 32 bits of the image are the bits of the first lane. Every NaN has the bits 0x7FC00000.
+#[tactic(auto, using(crate::specs::Lanes::lane_bits_lem), unfolding(crate::specs::Contents::pair_of_bits))]
 impl Kind for Pair {
     ghost zero_content = { pair_of 0 };
 
@@ -102,7 +104,10 @@ impl Kind for Pair {
     ghost bounded = { pair_bounded };
 
     fn zero() -> Pair {
-        pair_of_bits(0, 0)
+        Pair {
+            first: 0.0,
+            second: 0.0,
+        }
     }
 
     fn image(self) -> u64 {
@@ -115,39 +120,18 @@ impl Kind for Pair {
         ensures content { result ≡ pair_of word }
         ensures image { pair_image result ≡ lane_bits (word % 2 ^ 32) + 2 ^ 32 * lane_bits (word / 2 ^ 32) }
     {
-        pair_of_bits((word % 0x1_0000_0000) as u32, (word / 0x1_0000_0000) as u32)
+        // `&` and `>>` in place of `%` and `/`: tried, the clause `image` stays open.
+        Pair {
+            first: f32_from_bits_with_nan((word % 0x1_0000_0000) as u32),
+            second: f32_from_bits_with_nan((word / 0x1_0000_0000) as u32),
+        }
     }
 
     // Lane by lane, each rounded once.
     fn sum(self, other: Pair) -> Pair {
         Pair {
-            first: lane_sum(self.first, other.first),
-            second: lane_sum(self.second, other.second),
+            first: self.first + other.first,
+            second: self.second + other.second,
         }
     }
-}
-
-// The one word with this number.
-fn word_with(value: u64) -> Word
-    ensures { (w : Word) → w.value ≡ value → result ≡ w }
-{
-    Word { value }
-}
-
-// The pair whose lanes have these bits, every NaN pattern taken as the one NaN.
-fn pair_of_bits(low: u32, high: u32) -> Pair
-    ensures content { result ≡ pair_of_bits low high }
-    ensures image { pair_image result ≡ lane_bits low + 2 ^ 32 * lane_bits high }
-{
-    Pair {
-        first: f32_from_bits_with_nan(low),
-        second: f32_from_bits_with_nan(high),
-    }
-}
-
-// The sum of two lanes, rounded once.
-fn lane_sum(x: f32, y: f32) -> f32
-    ensures { result ≡ add binary32 x y }
-{
-    x + y
 }

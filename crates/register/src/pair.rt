@@ -3,7 +3,7 @@ ghost use Rattle.std.specs.Prelude.{T};
 ghost use Rattle.std.specs.Float.Ieee.{fits};
 ghost use Rattle.std.specs.Float.{binary32};
 
-#[derive(Clone, Copy)]
+#[derive(Clone, Copy, Debug, PartialEq)]
 pub struct Pair {
     pub first: f32,
     pub second: f32,

@@ -1,6 +1,6 @@
 use Rattle.std.proofs.Common.{◌≡◌, ◌-◌, ◌<◌}
 use Rattle.register.specs.Slots.{registers_cleared}
-use Rattle.register.proofs.ring.clear.Given as goal
+use Rattle.register.proofs.ring.clear_registers.Given as goal
 
 abbrev pub invariant-loop-p : goal.invariant-loop-p
 invariant-loop-p g l =
