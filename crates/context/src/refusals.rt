@@ -5,7 +5,7 @@ ghost use Rattle.context.specs.Refusals.{refusal_number};
 
 use moves::MoveFault;
 
-#[derive(Clone, Copy)]
+#[derive(Clone, Copy, Debug, PartialEq, Eq)]
 pub enum Refusal {
     // The line is not readable.
     Unreadable,

@@ -4,7 +4,7 @@ ghost use Rattle.engine.specs.Running.{shown_as};
 
 use register::{Kind, Slot};
 
-#[derive(Clone, Copy)]
+#[derive(Clone, Copy, Debug, PartialEq, Eq)]
 pub enum Instruction {
     Begin { context: u64, start: u64, size: u64 },
     Resume { context: u64 },
@@ -32,7 +32,7 @@ pub enum Instruction {
     Counts,
 }
 
-#[derive(Clone, Copy)]
+#[derive(Clone, Copy, Debug, PartialEq, Eq)]
 pub enum Answer {
     Done,
     // A marker's word.

@@ -2,7 +2,7 @@
 use store::StoreFault;
 
 // Words written and words read by moves; each stops at 2^64 − 1.
-#[derive(Clone, Copy)]
+#[derive(Clone, Copy, Debug, PartialEq, Eq)]
 pub struct Counts {
     pub written: u64,
     pub read: u64,
@@ -10,7 +10,7 @@ pub struct Counts {
 
 // The next word to spill (BSPSTORE) in a region from `start`, and RNAT: the NaT bits of the registers in
 // BSPSTORE's group below it.
-#[derive(Clone, Copy)]
+#[derive(Clone, Copy, Debug, PartialEq, Eq)]
 pub struct Cursor {
     pub start: u32,
     pub bspstore: u64,
@@ -18,7 +18,7 @@ pub struct Cursor {
     pub counts: Counts,
 }
 
-#[derive(Clone, Copy)]
+#[derive(Clone, Copy, Debug, PartialEq, Eq)]
 pub enum Movement {
     Spill,
     Fill,
@@ -27,7 +27,7 @@ pub enum Movement {
 
 // Which move of which context stood at which position: for a spill the next position to be stored, for a fill the
 // position filled, for a lowering the position that BSPSTORE is lowered to.
-#[derive(Clone, Copy)]
+#[derive(Clone, Copy, Debug, PartialEq, Eq)]
 pub struct Place {
     pub movement: Movement,
     pub context: u64,
@@ -35,7 +35,7 @@ pub struct Place {
 }
 
 // The store's fault whole, and the move that met it.
-#[derive(Clone, Copy)]
+#[derive(Clone, Copy, Debug, PartialEq, Eq)]
 pub struct MoveFault {
     pub fault: StoreFault,
     pub place: Place,

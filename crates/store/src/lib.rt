@@ -16,7 +16,7 @@ pub use frames::{HostRefused, check_frames};
 pub use paged::PagedStore;
 
 // Why a store refuses: no such word or page, a shut page, or doors that do not move.
-#[derive(Clone, Copy)]
+#[derive(Clone, Copy, Debug, PartialEq, Eq)]
 pub enum Cause {
     Beyond,
     Shut,
@@ -24,7 +24,7 @@ pub enum Cause {
 }
 
 // A word that was not moved, and why.
-#[derive(Clone, Copy)]
+#[derive(Clone, Copy, Debug, PartialEq, Eq)]
 pub struct StoreFault {
     pub cause: Cause,
     pub word: u64,
