@@ -1,52 +1,26 @@
 -- Facts about what a text's digits come to. Assumes nothing.
-use Rattle.std.proofs.Common.{◌≡◌, ℕ, ◌+◌, ◌-◌, ◌*◌, ◌^◌, ◌<◌, ◌≤◌, Bool, true, false, cond, not, ◌&&◌, eqb, ltb, List, [], ◌∷◌, ◌++◌, length, get_or, take, drop, decimal, sym, refl, ap, ◌∙◌, subst, ⊎_elim, arith, rules}
-use Rattle.std.proofs.lemmas.Fmt.{decimal_digit, decimal_nonempty, decimal-digits_value, digits_decimal, first_decimal, digits_value-decimal}
+use Rattle.std.proofs.Common.{◌≡◌, ℕ, ◌+◌, ◌-◌, ◌*◌, ◌^◌, ◌<◌, ◌≤◌, Bool, true, false, cond, not, ◌&&◌, eqb, ltb, List, [], ◌∷◌, ◌++◌, length, get_or, take, drop, Some, None, Ok, Err, Result, unwrap_or, IsUtf8, decimal, one-add, sym, refl, ap, ◌∙◌, subst, ⊎_elim, arith, rules}
+use Rattle.std.proofs.lemmas.Fmt.{decimal_digit, decimal_nonempty, decimal-digits_value, digits_decimal, first_decimal, IsAscii-from_digits, digits_value-decimal}
 use Rattle.std.proofs.lemmas.List.{nil_from_length, take_all}
-use Rattle.std.proofs.lemmas.Str.Parse.{IsNumeralModel, numerals_by_fold, tells_all_ascii_digits}
-use Rattle.std.proofs.lemmas.Bool.{and_parts, and_from, and_left, and_right, cases_eq, cases_lt, eq-eqb, ne_eqb, lt-ltb, ltb-true, not_from_false}
+use Rattle.std.proofs.lemmas.Str.Parse.{IsNumeralModel, numerals_by_fold, parse_digits, tells_all_ascii_digits}
+use Rattle.std.proofs.lemmas.List.Sums.{prefix_len-le-length}
+use Rattle.std.proofs.lemmas.Str.{IsUtf8-from_ascii}
+use Rattle.std.proofs.lemmas.Bool.{and_parts, and_from, and_left, and_right, cases_eq, cases_lt, eq-eqb, ne_eqb, lt-ltb, ltb-true, ltb-false, not_from_false}
 use Rattle.std.proofs.lemmas.Bool.Decides.{nat_tests}
 use Rattle.std.specs.Char.{is_ascii_digit}
+use Rattle.std.specs.List.{position, position_or_len}
+use Rattle.std.specs.Result.{MatchResult, OkIff, result_ok}
 use Rattle.std.specs.Str.{all_ascii_digits}
-use Rattle.text.specs.Numbers.{worth, after_digits, begins_with_digit, begins_well, readable, spaced, Takes, Words}
+use Rattle.std.specs.Str.Parse.{ParsesUnsigned}
+use Rattle.text.specs.Numbers.{worth, first_digits, after_digits, begins_with_digit, begins_well, readable, spaced, Takes, Words}
 
-pub begins : (s : List ℕ) → 0 < length s → 48 ≤ get_or s 0 0 → get_or s 0 0 < 58 → begins_with_digit s ≡ true
-begins [] h lo hi = let z : ⊥ = omega arith in absurd z
-begins (b ∷ bs) h lo hi = grind (arith, nat_tests)
-
-pub begins_not : (s : List ℕ) → (0 < length s → 48 ≤ get_or s 0 0 → get_or s 0 0 < 58 → ⊥) → begins_with_digit s ≡ false
-begins_not [] no_digit = refl
-begins_not (b ∷ bs) no_digit = grind (arith, nat_tests)
-
--- one digit on: what is left is as code cuts it off
-pub worth_step : (n : ℕ) (s : List ℕ) → begins_with_digit s ≡ true → worth n s ≡ worth (n * 10 + (get_or s 0 0 - 48)) (take (length s - 1) (drop 1 s))
-worth_step n [] h = cc
-worth_step n (b ∷ bs) h =
-    ap (λ t. cond t (worth (n * 10 + (b - 48)) bs) n) h ∙ ap (worth (n * 10 + (b - 48))) (sym (take_all (length (b ∷ bs) - 1) bs (omega arith)))
-
-pub after_step : (s : List ℕ) → begins_with_digit s ≡ true → after_digits s ≡ after_digits (take (length s - 1) (drop 1 s))
-after_step [] h = cc
-after_step (b ∷ bs) h = ap (λ t. cond t (after_digits bs) (b ∷ bs)) h ∙ ap after_digits (sym (take_all (length (b ∷ bs) - 1) bs (omega arith)))
-
-pub worth_stop : (n : ℕ) (s : List ℕ) → begins_with_digit s ≡ false → worth n s ≡ n
+worth_stop : (n : ℕ) (s : List ℕ) → begins_with_digit s ≡ false → worth n s ≡ n
 worth_stop n [] h = refl
 worth_stop n (b ∷ bs) h = ap (λ t. cond t (worth (n * 10 + (b - 48)) bs) n) h
 
-pub after_stop : (s : List ℕ) → begins_with_digit s ≡ false → after_digits s ≡ s
+after_stop : (s : List ℕ) → begins_with_digit s ≡ false → after_digits s ≡ s
 after_stop [] h = refl
 after_stop (b ∷ bs) h = ap (λ t. cond t (after_digits bs) (b ∷ bs)) h
-
-pub worth_grows : (n : ℕ) (s : List ℕ) → n ≤ worth n s
-worth_grows n [] = omega arith
-worth_grows n (b ∷ bs) =
-    elim (is_ascii_digit b) as (λ t. n ≤ cond t (worth (n * 10 + (b - 48)) bs) n) [
-      | true ↦ omega (arith, worth_grows (n * 10 + (b - 48)) bs)
-      | false ↦ omega arith
-    ]
-
--- The digits that a text begins with.
-abbrev front : List ℕ → List ℕ
-front [] = []
-front (b ∷ bs) = cond (is_ascii_digit b) (b ∷ front bs) []
 
 own : IsNumeralModel (λ ds. all_ascii_digits ds ≡ true) (worth 0)
 own = numerals_by_fold _ tells_all_ascii_digits worth (search rules)
@@ -64,17 +38,17 @@ after-append (c ∷ cs) t h stop =
     let e = and_parts (is_ascii_digit c) (all_ascii_digits cs) h in
     ap (λ b. cond b (after_digits (cs ++ t)) (c ∷ (cs ++ t))) e.0 ∙ after-append cs t e.1 stop
 
-front-append : (s : List ℕ) → s ≡ front s ++ after_digits s
-front-append [] = refl
-front-append (b ∷ bs) =
-    elim (is_ascii_digit b) as (λ v. b ∷ bs ≡ cond v (b ∷ front bs) [] ++ cond v (after_digits bs) (b ∷ bs)) [ true ↦ ap (λ t. b ∷ t) (front-append bs) | false ↦ refl ]
+first_digits-append : (s : List ℕ) → s ≡ first_digits s ++ after_digits s
+first_digits-append [] = refl
+first_digits-append (b ∷ bs) =
+    elim (is_ascii_digit b) as (λ v. b ∷ bs ≡ cond v (b ∷ first_digits bs) [] ++ cond v (after_digits bs) (b ∷ bs)) [ true ↦ ap (λ t. b ∷ t) (first_digits-append bs) | false ↦ refl ]
 
-front-digits : (s : List ℕ) → all_ascii_digits (front s) ≡ true
-front-digits [] = refl
-front-digits (b ∷ bs) = go (is_ascii_digit b) refl (front-digits bs)
+first_digits_all : (s : List ℕ) → all_ascii_digits (first_digits s) ≡ true
+first_digits_all [] = refl
+first_digits_all (b ∷ bs) = go (is_ascii_digit b) refl (first_digits_all bs)
   where
-    go : (v : Bool) → is_ascii_digit b ≡ v → all_ascii_digits (front bs) ≡ true → all_ascii_digits (cond v (b ∷ front bs) []) ≡ true
-    go true e h = and_from (is_ascii_digit b) (all_ascii_digits (front bs)) e h
+    go : (v : Bool) → is_ascii_digit b ≡ v → all_ascii_digits (first_digits bs) ≡ true → all_ascii_digits (cond v (b ∷ first_digits bs) []) ≡ true
+    go true e h = and_from (is_ascii_digit b) (all_ascii_digits (first_digits bs)) e h
     go false e h = refl
 
 pub after_stops : (s : List ℕ) → begins_with_digit (after_digits s) ≡ false
@@ -85,22 +59,22 @@ after_stops (b ∷ bs) = go (is_ascii_digit b) refl (after_stops bs)
     go true e h = h
     go false e h = e
 
-worth-front : (s : List ℕ) → worth 0 s ≡ worth 0 (front s)
-worth-front s = ap (worth 0) (front-append s) ∙ worth-append 0 (front s) (after_digits s) (front-digits s) (after_stops s)
+worth-first_digits : (s : List ℕ) → worth 0 s ≡ worth 0 (first_digits s)
+worth-first_digits s = ap (worth 0) (first_digits-append s) ∙ worth-append 0 (first_digits s) (after_digits s) (first_digits_all s) (after_stops s)
 
-front_none : (s : List ℕ) → begins_with_digit s ≡ false → front s ≡ []
-front_none [] h = refl
-front_none (b ∷ bs) h = ap (λ v. cond v (b ∷ front bs) []) h
+first_digits_none : (s : List ℕ) → begins_with_digit s ≡ false → first_digits s ≡ []
+first_digits_none [] h = refl
+first_digits_none (b ∷ bs) h = ap (λ v. cond v (b ∷ first_digits bs) []) h
 
 -- a text that begins well begins with digits, and with no leading zero
-front_well : (s : List ℕ) → begins_well s ≡ true → (0 < length (front s)) × (get_or (front s) 0 0 ≡ 48 → length (front s) ≡ 1)
-front_well [] h = let z : ◌≡◌ {A = ℕ} 0 1 = cc in absurd (omega arith)
-front_well (b ∷ bs) h =
+first_digits_well : (s : List ℕ) → begins_well s ≡ true → (0 < length (first_digits s)) × (get_or (first_digits s) 0 0 ≡ 48 → length (first_digits s) ≡ 1)
+first_digits_well [] h = let z : ◌≡◌ {A = ℕ} 0 1 = cc in absurd (omega arith)
+first_digits_well (b ∷ bs) h =
     let e = and_parts (is_ascii_digit b) (not (eqb b 48 && begins_with_digit bs)) h in
-    let f : front (b ∷ bs) ≡ b ∷ front bs = ap (λ v. cond v (b ∷ front bs) []) e.0 in
+    let f : first_digits (b ∷ bs) ≡ b ∷ first_digits bs = ap (λ v. cond v (b ∷ first_digits bs) []) e.0 in
     let alone : b ≡ 48 → begins_with_digit bs ≡ false = λ q. alone-from (eqb b 48) (begins_with_digit bs) (eq-eqb b 48 q) e.1 in
     subst (λ (xs : List ℕ). (0 < length xs) × (get_or xs 0 0 ≡ 48 → length xs ≡ 1)) (sym f)
-    (omega arith, λ q. ap (λ xs. length (b ∷ xs)) (front_none bs (alone q)))
+    (omega arith, λ q. ap (λ xs. length (b ∷ xs)) (first_digits_none bs (alone q)))
   where
     alone-from : (x y : Bool) → x ≡ true → not (x && y) ≡ true → y ≡ false
     alone-from x y p q = grind arith
@@ -109,10 +83,10 @@ front_well (b ∷ bs) h =
 pub numeral_first : (s : List ℕ) → readable s ≡ true → s ≡ decimal (worth 0 s) ++ after_digits s
 numeral_first s h =
     let e = and_parts (begins_well s) (ltb (worth 0 s) (2 ^ 64)) h in
-    let w = front_well s e.0 in
-    let small : worth 0 (front s) < 2 ^ 64 = subst (λ n. n < 2 ^ 64) (worth-front s) (ltb-true _ _ e.1) in
-    let d : decimal (worth 0 s) ≡ front s = ap decimal (worth-front s) ∙ decimal-digits_value own (front s) (front-digits s) w.0 w.1 small in
-    front-append s ∙ ap (λ ds. ds ++ after_digits s) (sym d)
+    let w = first_digits_well s e.0 in
+    let small : worth 0 (first_digits s) < 2 ^ 64 = subst (λ n. n < 2 ^ 64) (worth-first_digits s) (ltb-true _ _ e.1) in
+    let d : decimal (worth 0 s) ≡ first_digits s = ap decimal (worth-first_digits s) ∙ decimal-digits_value own (first_digits s) (first_digits_all s) w.0 w.1 small in
+    first_digits-append s ∙ ap (λ ds. ds ++ after_digits s) (sym d)
 
 zero_alone : (n : ℕ) → n < 2 ^ 64 → get_or (decimal n) 0 0 ≡ 48 → length (decimal n) ≡ 1
 zero_alone n small h = ⊎_elim (λ pos. absurd (omega (arith, first_decimal n pos small))) (λ nil. ap length (decimal_digit n (omega arith))) (cases_lt 0 n)
@@ -126,6 +100,69 @@ well_append (c ∷ cs) t h some alone stop =
     (λ q. not_from_false _ (and_right (eqb c 48) (begins_with_digit (cs ++ t)) (zero q)))
     (λ q. not_from_false _ (and_left (eqb c 48) (begins_with_digit (cs ++ t)) (ne_eqb c 48 q)))
     (cases_eq c 48))
+
+-- the bytes before the first that is no digit, and those from it on
+take-first_digits : (s : List ℕ) → take (position_or_len (λ b. not (is_ascii_digit b)) s) s ≡ first_digits s
+take-first_digits [] = refl
+take-first_digits (b ∷ bs) = elim (is_ascii_digit b) as (λ v. take (cond (not (not v)) (1 + position_or_len (λ x. not (is_ascii_digit x)) bs) 0) (b ∷ bs) ≡ cond v (b ∷ first_digits bs) []) [
+  | true ↦ rw one-add (ap (λ x. b ∷ x) (take-first_digits bs))
+  | false ↦ refl
+]
+
+drop-first_digits : (s : List ℕ) → drop (position_or_len (λ b. not (is_ascii_digit b)) s) s ≡ after_digits s
+drop-first_digits [] = refl
+drop-first_digits (b ∷ bs) = elim (is_ascii_digit b) as (λ v. drop (cond (not (not v)) (1 + position_or_len (λ x. not (is_ascii_digit x)) bs) 0) (b ∷ bs) ≡ cond v (after_digits bs) (b ∷ bs)) [
+  | true ↦ rw one-add (drop-first_digits bs)
+  | false ↦ refl
+]
+
+unwrapped : (p n : ℕ) (v : Bool) → ltb p n ≡ v → p ≤ n → unwrap_or (cond v (Some p) None) n ≡ p
+unwrapped p n true h le = refl
+unwrapped p n false h le = omega (arith, ltb-false p n h)
+
+pub digits_cut : (s : List ℕ) (n : ℕ) → n ≡ unwrap_or (position (λ b. not (is_ascii_digit b)) s) (length s) → (take n s ≡ first_digits s) × (drop n s ≡ after_digits s)
+digits_cut s n e =
+    let p = position_or_len (λ b. not (is_ascii_digit b)) s in
+    let at : n ≡ p = e ∙ unwrapped p (length s) (ltb p (length s)) refl (prefix_len-le-length (λ b. not (not (is_ascii_digit b))) s) in
+    rw at (take-first_digits s, drop-first_digits s)
+
+-- they are text
+digits_text : (s : List ℕ) → IsUtf8 (first_digits s)
+digits_text s = IsUtf8-from_ascii (first_digits s) (IsAscii-from_digits (first_digits s) (own.to (first_digits s) (first_digits_all s)))
+
+not_true_false : (b : Bool) → (b ≡ true → ⊥) → b ≡ false
+not_true_false true h = absurd (h refl)
+not_true_false false h = refl
+
+-- a 0 before another digit
+pub zero_led : (s : List ℕ) → 2 ≤ length (first_digits s) → get_or (first_digits s) 0 0 ≡ 48 → readable s ≡ false
+zero_led s long zero = not_true_false (readable s) (λ h. omega (arith, (first_digits_well s (and_parts (begins_well s) (ltb (worth 0 s) (2 ^ 64)) h).0).1 zero))
+
+pub digits_read : {X E : Type 0} (P : X → Type 0) (Q : E → Type 0) (s ds : List ℕ) (r : Result X E) → ds ≡ first_digits s → MatchResult r P (λ e. ¬ (IsUtf8 ds) × Q e) → result_ok r ≡ None → ⊥
+digits_read P Q s ds (Ok x) e h none = cc
+digits_read P Q s ds (Err x) e h none = h.0 (rw e (digits_text s))
+
+-- what `parse` makes of the digits that a text begins with
+pub number_none : {E : Type 0} (s : List ℕ) (r : Result ℕ E) → ParsesUnsigned 64 10 (first_digits s) r → result_ok r ≡ None → readable s ≡ false
+number_none {E = E} s r h none = go r (parse_digits own 64 (first_digits s) r h (first_digits_all s)) none
+  where
+    go : (r : Result ℕ E) → OkIff r ((0 < length (first_digits s)) × (worth 0 (first_digits s) < 2 ^ 64)) (worth 0 (first_digits s)) → result_ok r ≡ None → readable s ≡ false
+    go (Ok n) k none = cc
+    go (Err e) k none = not_true_false (readable s) (λ t. let e = and_parts (begins_well s) (ltb (worth 0 s) (2 ^ 64)) t in k ((first_digits_well s e.0).0, omega (arith, worth-first_digits s, ltb-true _ _ e.1)))
+
+pub number_some : {E : Type 0} (s : List ℕ) (r : Result ℕ E) (n : ℕ) → ParsesUnsigned 64 10 (first_digits s) r → result_ok r ≡ Some n
+    → (get_or (first_digits s) 0 0 ≡ 48 → length (first_digits s) ≤ 1) → (readable s ≡ true) × (n ≡ worth 0 s)
+number_some {E = E} s r n h some alone = go r (parse_digits own 64 (first_digits s) r h (first_digits_all s)) some
+  where
+    go : (r : Result ℕ E) → OkIff r ((0 < length (first_digits s)) × (worth 0 (first_digits s) < 2 ^ 64)) (worth 0 (first_digits s)) → result_ok r ≡ Some n → (readable s ≡ true) × (n ≡ worth 0 s)
+    go (Ok m) k some =
+        let same : m ≡ n = cc in (
+          and_from _ _
+              (ap begins_well (first_digits-append s) ∙ well_append (first_digits s) (after_digits s) (first_digits_all s) k.0.0 (λ z. omega (arith, alone z, k.0.0)) (after_stops s))
+              (lt-ltb _ _ (omega (arith, worth-first_digits s, k.0.1))),
+          sym same ∙ k.1 ∙ sym (worth-first_digits s),
+        )
+    go (Err e) k some = cc
 
 -- what `{n}` writes, and then no digit, is readable, and read as n
 pub numeral_only : (n : ℕ) (t : List ℕ) → n < 2 ^ 64 → begins_with_digit t ≡ false

@@ -60,7 +60,7 @@ remade (I.SetMode m) = refl
 remade I.State = refl
 remade I.Counts = refl
 
-short : (i : Instruction) → 0 + length (operands_of i) ≤ 3
+short : (i : Instruction) → length (operands_of i) ≤ 3
 short (I.Begin k s n) = omega arith
 short (I.Resume k) = omega arith
 short (I.Retire k) = omega arith
@@ -93,7 +93,7 @@ apart i j p q e =
     sym (remade i) ∙ ap (λ l. made l (operands_of i)) letters ∙ ap (made (letter_of j)) operands ∙ remade j
 
 -- a line whose operands are not readable
-pub unreadable : (line d : List ℕ) (l : ℕ) → line ≡ l ∷ d → ((ns : List ℕ) → 0 + length ns ≤ 3 → Words ns → d ≡ spaced ns → ⊥) → Unreadable line
+pub unreadable : (line d : List ℕ) (l : ℕ) → line ≡ l ∷ d → ((ns : List ℕ) → length ns ≤ 3 → Words ns → d ≡ spaced ns → ⊥) → Unreadable line
 unreadable line d l e h i p k = h (operands_of i) (short i) p (ap (drop 1) (sym e ∙ k))
 
 -- a line whose operands were read

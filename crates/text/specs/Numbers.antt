@@ -1,13 +1,12 @@
 -- Numbers as a line writes them. Assumes nothing.
-use Rattle.std.specs.Prelude.{◌≡◌, ℕ, ◌+◌, ◌-◌, ◌*◌, ◌^◌, ◌<◌, Bool, true, false, cond, not, ◌&&◌, List, [], ◌∷◌, ◌++◌, length, take, drop, Some, None, decimal, Option, ◌==◌, ◌≢◌, nat_lt, slice_index}
+use Rattle.std.specs.Prelude.{◌≡◌, ℕ, ◌+◌, ◌-◌, ◌*◌, ◌^◌, ◌<◌, Bool, true, false, if◌then◌else◌, not, ◌&&◌, List, [], ◌∷◌, ◌++◌, length, take, drop, Some, None, decimal, Option, ◌==◌, ◌≢◌, nat_lt, slice_index}
 use Rattle.std.specs.Borrow.{Bor}
 use Rattle.std.specs.Char.{is_ascii_digit}
-use Rattle.std.specs.List.{AllByRecursion}
+use Rattle.std.specs.List.{AllByRecursion, flat_map}
 
 -- for each number a space and its decimal digits
 abbrev pub spaced : List ℕ → List ℕ
-spaced [] = []
-spaced (n ∷ ns) = 32 ∷ (decimal n ++ spaced ns)
+spaced ns = flat_map (λ n. 32 ∷ decimal n) ns
 
 -- each is below 2 ^ 64
 abbrev pub Words : List ℕ → Type 0
@@ -20,12 +19,17 @@ begins_with_digit (b ∷ bs) = is_ascii_digit b
 -- what the digits that a text begins with come to, after digits that come to n
 abbrev pub worth : ℕ → List ℕ → ℕ
 worth n [] = n
-worth n (b ∷ bs) = cond (is_ascii_digit b) (worth (n * 10 + (b - 48)) bs) n
+worth n (b ∷ bs) = if is_ascii_digit b then worth (n * 10 + (b - 48)) bs else n
+
+-- the digits that a text begins with
+abbrev pub first_digits : List ℕ → List ℕ
+first_digits [] = []
+first_digits (b ∷ bs) = if is_ascii_digit b then b ∷ first_digits bs else []
 
 -- what follows those digits
 abbrev pub after_digits : List ℕ → List ℕ
 after_digits [] = []
-after_digits (b ∷ bs) = cond (is_ascii_digit b) (after_digits bs) (b ∷ bs)
+after_digits (b ∷ bs) = if is_ascii_digit b then after_digits bs else b ∷ bs
 
 -- a digit comes first, and no 0 before another digit
 abbrev pub begins_well : List ℕ → Bool
