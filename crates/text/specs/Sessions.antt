@@ -1,5 +1,5 @@
 -- Whole sessions: the outcome of each line, and what the session leaves.
-use Rattle.std.specs.Prelude.{◌≡◌, ℕ, ◌+◌, ◌⊎◌, List, [], ◌∷◌, ◌++◌, length, Ok, Err, is_ok, is_err, count_by, Result}
+use Rattle.std.specs.Prelude.{◌≡◌, ℕ, ◌+◌, true, false, ⊤, ◌⊎◌, List, [], ◌∷◌, ◌++◌, length, Ok, Err, is_ok, is_err, count_by, Result}
 use Rattle.std.specs.List.{flat_map}
 use Rattle.register.specs.declared.Slot.{Slot}
 use Rattle.store.specs.Meaning.{Meaning}
@@ -10,8 +10,10 @@ use Rattle.engine.specs.declared.instructions.Instruction.{Instruction}
 use Rattle.engine.specs.declared.machine.Machine.{Machine}
 use Rattle.engine.specs.Hosts.{Host, hosted}
 use Rattle.text.specs.Lines.{lines_of}
-use Rattle.engine.specs.Making.{new_machine}
+use Rattle.engine.specs.Making.{can_make, new_machine}
 use Rattle.engine.specs.Steps.{step_answer, step_after}
+use Rattle.text.specs.declared.session.SessionError.{SessionError}
+use Rattle.text.specs.declared.session.SessionError.TheVariants.{Memory, Refused}
 use Rattle.text.specs.Spelling.{spelling, Operands64, Unreadable}
 use Rattle.text.specs.Outcomes.{LineOutcome, fault_at, printed}
 use Rattle.text.specs.Printed.{printed_end}
@@ -61,3 +63,12 @@ module _ {C : Type 0} where
   abbrev pub SessionPrints : C → (C → ℕ) → (ℕ → C) → (C → C → C) → List (Slot C) → Meaning → List ℕ → List ℕ → List (Slot C) → Meaning → Type 0
   SessionPrints nought image content sum file m input bytes file' m' =
       (os : List LineOutcome) × (bytes ≡ printed_all os) × SessionRuns nought image content sum file m input os file' m'
+
+  -- the register count and the store's length are lawful
+  abbrev pub IsLawfulHost : List (Slot C) → Meaning → Type 0
+  IsLawfulHost file m = can_make (length file) (length m.words) ≡ true
+
+  -- why a session was not run: no memory for its answers, or a host that is not lawful
+  abbrev pub NotRun : List (Slot C) → Meaning → SessionError → Type 0
+  NotRun file m Memory = ⊤
+  NotRun file m (Refused r) = (r ≡ R.Host) × (can_make (length file) (length m.words) ≡ false)

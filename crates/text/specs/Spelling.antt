@@ -1,5 +1,5 @@
 -- The line of each instruction, without its end byte. Assumes nothing.
-use Rattle.std.specs.Prelude.{◌≡◌, ℕ, ◌+◌, ◌≤◌, List, [], ◌∷◌, ◌++◌, length, Some, None, Option, ◌≢◌}
+use Rattle.std.specs.Prelude.{◌≡◌, ℕ, ◌≤◌, List, [], ◌∷◌, length, Some, None, Option, ◌≢◌}
 use Rattle.engine.specs.declared.instructions.Instruction.{Instruction}
 use Rattle.engine.specs.declared.instructions.Instruction.TheVariants as I
 use Rattle.arrayvec.specs.ArrayVec.{ArrayVec}

@@ -1,11 +1,11 @@
 // Sessions: bytes in, bytes out.
-ghost use Rattle.std.specs.Prelude.{◌≡◌, ◌+◌, ◌≤◌, ◌++◌, length, IfOk, OnOk};
+ghost use Rattle.std.specs.Prelude.{◌≡◌, ◌+◌, ◌≤◌, ◌++◌, length, IfOk, IfErr, OnOk};
 ghost use Rattle.text.specs.declared.session.SessionError.TheVariants.{Memory, Refused};
 ghost use Rattle.text.specs.Outcomes.{printed, Tells, Ends, Short};
 ghost use Rattle.text.specs.Printed.{Appends};
 ghost use Rattle.engine.specs.Hosts.{hosted};
 ghost use Rattle.text.specs.Lines.{end_bytes, lines_of};
-ghost use Rattle.text.specs.Sessions.{LineRuns, Runs, SessionRuns, SessionPrints, printed_all};
+ghost use Rattle.text.specs.Sessions.{LineRuns, Runs, SessionRuns, SessionPrints, IsLawfulHost, NotRun, printed_all};
 
 use super::lines::first_line;
 use super::printing::{push_answer, push_end, push_refusal};
@@ -57,7 +57,8 @@ impl From<Refusal> for SessionError {
     }
 }
 
-// One line, given without its end byte.
+// One line, given without its end byte. Here and below the slots and the store are two parameters, since no struct holds
+// the lent slots.
 pub fn execute_line<K: Kind, S: Store>(
     engine: &mut Engine,
     slots: &mut [Slot<K>],
@@ -92,6 +93,7 @@ fn execute_lines<K: Kind, S: Store>(
         (hosted engine.new.machine slots.new (S.meaning store.new))) }
 {
     let mut outcomes = Vec::with_capacity(heap, lines_at_most(input))?;
+    // A loop by hand: over `split_inclusive` the check refuses the module that it makes for a `for` in a generic function.
     let mut number: u64 = 0;
     let mut rest = input;
     while !rest.is_empty() {
@@ -151,8 +153,10 @@ pub fn run_outcomes<K: Kind, S: Store>(
     store: &mut S,
     input: &[u8],
 ) -> Result<Vec<Outcome>, SessionError>
-    ensures { IfOk result (λ v. SessionRuns K.zero_content K.image_of K.content_of K.sum_of
+    ensures ran { IfOk result (λ v. SessionRuns K.zero_content K.image_of K.content_of K.sum_of
         slots.old (S.meaning store.old) input.now v.items slots.new (S.meaning store.new)) }
+    ensures lawful { OnOk result (IsLawfulHost slots.old (S.meaning store.old)) }
+    ensures not_run { IfErr result (NotRun slots.old (S.meaning store.old)) }
 {
     let mut engine = Engine::new(slots.len() as u64, store.len())?;
     let outcomes = execute_lines(heap, &mut engine, slots, store, input)?;
@@ -166,8 +170,10 @@ pub fn run_session<K: Kind, S: Store>(
     store: &mut S,
     input: &[u8],
 ) -> Result<Vec<u8>, SessionError>
-    ensures { IfOk result (λ v. SessionPrints K.zero_content K.image_of K.content_of K.sum_of
+    ensures ran { IfOk result (λ v. SessionPrints K.zero_content K.image_of K.content_of K.sum_of
         slots.old (S.meaning store.old) input.now v.items slots.new (S.meaning store.new)) }
+    ensures lawful { OnOk result (IsLawfulHost slots.old (S.meaning store.old)) }
+    ensures not_run { IfErr result (NotRun slots.old (S.meaning store.old)) }
 {
     let room = lines_at_most(input)
         .saturating_add(1)

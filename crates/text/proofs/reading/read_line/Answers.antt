@@ -1,7 +1,7 @@
-use Rattle.std.proofs.Common.{◌≡◌, ◌∷◌, length, get_or, ap, arith, ltb-false, ltb-true}
+use Rattle.std.proofs.Common.{◌≡◌, ◌∷◌, length, get_or, arith, ltb-false, ltb-true}
 use Rattle.std.proofs.lemmas.Slice.{first_rest}
 use Rattle.std.specs.List.{between}
-use Rattle.text.proofs.Spelled.{apart, read_as, unreadable}
+use Rattle.text.proofs.Spelled.{apart, read_as}
 use Rattle.text.proofs.reading.read_line.Goals as goal
 
 pub returns-in_default-clause-apart : goal.returns-in_default-clause-apart

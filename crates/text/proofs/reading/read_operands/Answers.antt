@@ -1,6 +1,6 @@
-use Rattle.std.proofs.Common.{◌≡◌, [], ◌∷◌, ◌++◌, sym, subst, rules, arith}
+use Rattle.std.proofs.Common.{◌≡◌, [], ◌∷◌, ◌++◌, rules, arith}
 use Rattle.std.proofs.lemmas.Grind.{common_steps}
-use Rattle.text.proofs.Operands.{ReadSoFar, read_all, read_full, read_more, read_none, read_stop}
+use Rattle.text.proofs.Operands.{read_more, read_stop}
 use Rattle.text.proofs.reading.read_operands.Goals as goal
 
 pub returns-in_err-n : goal.returns-in_err-n

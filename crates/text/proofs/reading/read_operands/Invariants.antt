@@ -1,4 +1,4 @@
-use Rattle.std.proofs.Common.{◌≤◌, length}
+use Rattle.std.proofs.Common.{length}
 use Rattle.text.proofs.Operands.{ReadSoFar}
 use Rattle.text.proofs.reading.read_operands.Given as goal
 

@@ -1,6 +1,6 @@
-use Rattle.std.proofs.Common.{◌≡◌, ◌+◌, ◌-◌, ◌++◌, is_ok, is_err, count_by, length, vec_items, sym, ap, ◌∙◌, rules, arith}
+use Rattle.std.proofs.Common.{◌≡◌, ◌-◌, ◌++◌, length, vec_items, ap, ◌∙◌, rules, arith}
 use Rattle.std.proofs.lemmas.List.{take_all}
-use Rattle.text.specs.Sessions.{printed_lines, granted_in, refused_in}
+use Rattle.text.specs.Sessions.{printed_lines, granted_in}
 use Rattle.text.proofs.SessionRuns.{all_counted, printed_whole}
 use Rattle.text.proofs.session.print_session.Goals as goal
 
