@@ -11,9 +11,6 @@ module _ {X Z : Type 0} {v w : Vec ℕ Z} {xs : List ℕ} {r : Result X AllocErr
   pub appends_as : {ys : List ℕ} → xs ≡ ys → Appends v w xs r → Appends v w ys r
   appends_as e h = subst (λ (zs : List ℕ). Appends v w zs r) e h
 
-  pub appends_at : {q : Result X AllocError} → r ≡ q → Appends v w xs r → Appends v w xs q
-  appends_at e h = subst (λ (p : Result X AllocError). Appends v w xs p) e h
-
   -- a second call
   pub appends_then : {Y : Type 0} {x : Vec ℕ Z} {ys : List ℕ} {q : Result Y AllocError} → Appends v w xs r → is_ok r ≡ true → Appends w x ys q → Appends v x (xs ++ ys) q
   appends_then {x = x} {ys = ys} {q = q} h ok k =

@@ -1,7 +1,7 @@
 -- Operands, one after another. Assumes nothing.
-use Rattle.std.proofs.Common.{◌≡◌, ℕ, ◌^◌, ◌<◌, ◌≤◌, true, false, List, [], ◌∷◌, ◌++◌, length, get_or, drop, Some, None, decimal, Option, sym, refl, ap, ◌∙◌, subst, append_assoc, arith, length-append, Bor}
+use Rattle.std.proofs.Common.{◌≡◌, ℕ, ◌^◌, ◌<◌, true, false, List, [], ◌∷◌, ◌++◌, length, get_or, drop, Some, None, decimal, Option, sym, ap, ◌∙◌, subst, append_assoc, arith, Bor}
 use Rattle.std.proofs.ByRecursion.{All-push}
-use Rattle.std.proofs.lemmas.List.{append-nil, nil_from_length}
+use Rattle.std.proofs.lemmas.List.{append-nil}
 use Rattle.std.proofs.lemmas.List.Concat.{flat_map-append}
 use Rattle.std.proofs.lemmas.Bool.{both_ways}
 use Rattle.text.specs.Numbers.{worth, after_digits, begins_with_digit, readable, spaced, NumberOf, OperandOf, Takes, Words}
@@ -32,9 +32,6 @@ pub record ReadSoFar (text rest ns : List ℕ) : Type 0 where
   pub words : Words ns
   pub only : (ms : List ℕ) → Words ms → text ≡ spaced ms → (more : List ℕ) × (ms ≡ ns ++ more) × (rest ≡ spaced more)
 
-pub read_none : (text : List ℕ) → ReadSoFar text text []
-read_none text = record { written = refl; words = tt; only = λ ms all e. (ms, refl, e) }
-
 words_after : (ns more : List ℕ) → Words (ns ++ more) → Words more
 words_after [] more h = h
 words_after (n ∷ ns) more h = words_after ns more h.1
@@ -64,15 +61,3 @@ module _ {text rest ns : List ℕ} where
       go : (more : List ℕ) → Words (ns ++ more) → rest ≡ spaced more → ⊥
       go [] all f = omega (arith, ap length f)
       go (m ∷ later) all f = none m (spaced later) (words_after ns (m ∷ later) all).0 (f, spaced_stops later)
-
-  -- nor are three where more than three follow one another
-  pub read_full : ReadSoFar text rest ns → 0 < length rest → length ns ≡ 3 → (ms : List ℕ) → length ms ≤ 3 → Words ms → text ≡ spaced ms → ⊥
-  read_full h some full ms few all e = let k = h.only ms all e in go k.0 k.1 k.2
-    where
-      go : (more : List ℕ) → ms ≡ ns ++ more → rest ≡ spaced more → ⊥
-      go [] f g = omega (arith, ap length g)
-      go (m ∷ later) f g = omega (arith, ap length f, length-append ns (m ∷ later))
-
-  -- where the text ends, it is written of the operands that were read
-  pub read_all : ReadSoFar text rest ns → length rest ≡ 0 → (text ≡ spaced ns) × Words ns
-  read_all h nil = (h.written ∙ ap (λ x. spaced ns ++ x) (nil_from_length rest nil) ∙ append-nil (spaced ns), h.words)

@@ -106,6 +106,7 @@ fn execute_lines<K: Kind, S: Store>(
 }
 
 // How many lines an input has at most.
+#[tactic(auto, using(crate::proofs::Ends::lines_few))]
 fn lines_at_most(input: &[u8]) -> usize
     ensures ends { result ≡ end_bytes input.now + 1 }
     ensures lines { length (lines_of input.now) ≤ result }
