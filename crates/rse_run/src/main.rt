@@ -3,9 +3,8 @@
 #![tactic(auto)]
 
 use register::{Slot, Word};
-use std::array;
-use std::io;
 use std::io::{Read, Write};
+use std::{array, io};
 use store::PagedStore;
 use text::run_session;
 

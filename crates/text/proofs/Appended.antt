@@ -39,9 +39,9 @@ spaced_rest word ns i lt =
     let more = spaced (get_or ns i 0 ∷ []) in
     let rest = spaced (drop (i + 1) ns) in
     let all : spaced ns ≡ now ++ (more ++ rest) =
-        ap spaced (sym (take-append-drop i ns) ∙ ap (λ x. take i ns ++ x) (drop_more ns i 0 lt))
-        ∙ flat_map-append (λ n. 32 ∷ decimal n) (take i ns) (get_or ns i 0 ∷ drop (i + 1) ns)
-        ∙ ap (λ x. now ++ x) (flat_map-append (λ n. 32 ∷ decimal n) (get_or ns i 0 ∷ []) (drop (i + 1) ns)) in
+    ap spaced (sym (take-append-drop i ns) ∙ ap (λ x. take i ns ++ x) (drop_more ns i 0 lt))
+    ∙ flat_map-append (λ n. 32 ∷ decimal n) (take i ns) (get_or ns i 0 ∷ drop (i + 1) ns)
+    ∙ ap (λ x. now ++ x) (flat_map-append (λ n. 32 ∷ decimal n) (get_or ns i 0 ∷ []) (drop (i + 1) ns)) in
     regroup word now more rest (10 ∷ []) ∙ ap (λ x. word ++ (x ++ (10 ∷ []))) (sym all)
   where
     regroup : (a b c d e : List ℕ) → ((a ++ b) ++ c) ++ (d ++ e) ≡ a ++ ((b ++ (c ++ d)) ++ e)

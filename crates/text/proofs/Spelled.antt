@@ -1,5 +1,5 @@
 -- A line spells one instruction at most. Assumes nothing.
-use Rattle.std.proofs.Common.{◌≡◌, ℕ, ◌≤◌, cond, eqb, List, ◌∷◌, length, get_or, drop, Some, None, Option, sym, refl, ap, ◌∙◌, subst, arith}
+use Rattle.std.proofs.Common.{◌≡◌, ℕ, cond, eqb, List, ◌∷◌, get_or, drop, Some, None, Option, sym, refl, ap, ◌∙◌, subst}
 use Rattle.engine.specs.declared.instructions.Instruction.{Instruction}
 use Rattle.engine.specs.declared.instructions.Instruction.TheVariants as I
 use Rattle.text.specs.Numbers.{spaced, Words}

@@ -1,5 +1,5 @@
 -- Numbers as a line writes them. Assumes nothing.
-use Rattle.std.specs.Prelude.{◌≡◌, ℕ, ◌+◌, ◌-◌, ◌*◌, ◌^◌, ◌<◌, Bool, true, false, if◌then◌else◌, not, ◌&&◌, List, [], ◌∷◌, ◌++◌, length, take, drop, Some, None, decimal, Option, ◌==◌, ◌≢◌, nat_lt, slice_index}
+use Rattle.std.specs.Prelude.{◌≡◌, ℕ, ◌+◌, ◌-◌, ◌*◌, ◌^◌, ◌<◌, Bool, true, false, if◌then◌else◌, not, ◌&&◌, List, [], ◌∷◌, ◌++◌, Some, None, decimal, Option, ◌==◌, nat_lt}
 use Rattle.std.specs.Borrow.{Bor}
 use Rattle.std.specs.Char.{is_ascii_digit}
 use Rattle.std.specs.List.{AllByRecursion, flat_map}
@@ -44,11 +44,6 @@ readable s = begins_well s && nat_lt (worth 0 s) (2 ^ 64)
 abbrev pub NumberOf : List ℕ → Option (ℕ × Bor (List ℕ)) → Type 0
 NumberOf s (Some p) = (readable s ≡ true) × (p.0 ≡ worth 0 s) × (p.1.now ≡ after_digits s)
 NumberOf s None = readable s ≡ false
-
--- the answer is what follows the space that s begins with, or s begins with none
-abbrev pub AfterSpace : List ℕ → Option (Bor (List ℕ)) → Type 0
-AfterSpace s (Some d) = (0 < length s) × (slice_index s 0 ≡ 32) × (d.now ≡ take (length s - 1) (drop 1 s))
-AfterSpace s None = 0 < length s → slice_index s 0 ≢ 32
 
 -- s is a space, the digits of n, and t, which begins with no digit
 abbrev pub Takes : List ℕ → ℕ → List ℕ → Type 0

@@ -1,6 +1,6 @@
 // Printing: `ok` and the answers, or `no` and the number of the refusal (for a shut word also the word).
 // No `Display` here: `write!` does not promise that a call succeeds where the vector has room.
-ghost use Rattle.std.specs.Prelude.{◌≡◌, [], ◌∷◌, ◌++◌};
+ghost use Rattle.std.specs.Prelude.{[], ◌∷◌, ◌++◌};
 ghost use Rattle.text.specs.Numbers.{spaced};
 ghost use Rattle.text.specs.Printed.{Appends, printed_answer, printed_refusal, printed_end};
 

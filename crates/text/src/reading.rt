@@ -1,27 +1,20 @@
 // Reading a line: a letter, then for each operand one space and a decimal number.
-ghost use Rattle.std.specs.Prelude.{◌≡◌, [], Some, None};
-ghost use Rattle.text.specs.Numbers.{AfterSpace, OperandOf};
+ghost use Rattle.std.specs.Prelude.{◌≡◌, Some, None};
+ghost use Rattle.text.specs.Numbers.{OperandOf};
 ghost use Rattle.text.specs.Spelling.{spelling, Operands64, Unreadable, InstructionOf, OperandsOf, Apart};
 
 use super::numbers::number;
 use arrayvec::ArrayVec;
 use engine::Instruction;
 
-// What follows the space before an operand.
-fn after_space(text: &[u8]) -> Option<&[u8]>
-    ensures { AfterSpace text.now result }
-{
-    match text {
-        [b' ', rest @ ..] => Some(rest),
-        _ => None,
-    }
-}
-
-// One operand, and what follows it.
+// One operand behind its space, and what follows it.
 fn operand(text: &[u8]) -> Option<(u64, &[u8])>
     ensures { OperandOf text.now result }
 {
-    number(after_space(text)?)
+    match text {
+        [b' ', digits @ ..] => number(digits),
+        _ => None,
+    }
 }
 
 // The operands, three at most, to the end of the line.

@@ -41,6 +41,7 @@ pub enum SessionError {
     Refused(Refusal),
 }
 
+// Both by hand, so that a clause knows the error that `?` makes.
 impl From<AllocError> for SessionError {
     ghost from_gives = { λ _ e. e ≡ Memory };
 
@@ -71,12 +72,8 @@ pub fn execute_line<K: Kind, S: Store>(
         text.now line result (hosted engine.new.machine slots.new (S.meaning store.new)) }
 {
     let on_line = |refusal| RunFault { refusal, line };
-    let instruction = read_line(text)
-        .ok_or(Refusal::Unreadable)
-        .map_err(on_line)?;
-    let answer = engine
-        .step(slots, store, instruction)
-        .map_err(on_line)?;
+    let instruction = read_line(text).ok_or(Refusal::Unreadable).map_err(on_line)?;
+    let answer = engine.step(slots, store, instruction).map_err(on_line)?;
     Ok(answer)
 }
 

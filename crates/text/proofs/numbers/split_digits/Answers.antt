@@ -10,6 +10,6 @@ pub returns : goal.returns
 returns c =
     let s = c.args.text.now in
     let found : c.position-end.result ≡ position (λ b. not (is_ascii_digit b)) s =
-        position_from_yields_List (λ b. not (is_ascii_digit b)) _ _ c.position-end.result c.position-end.ensures.ran (YieldsList-from_slice s cc) (λ x b q k. search (rules, tests)) in
+    position_from_yields_List (λ b. not (is_ascii_digit b)) _ _ c.position-end.result c.position-end.ensures.ran (YieldsList-from_slice s cc) (λ x b q k. search (rules, tests)) in
     let cut = digits_cut s c.unwrap_or.result (c.unwrap_or.ensures ∙ ap (λ r. unwrap_or r (length s)) found) in
     record { digits = c.split_at.ensures.front ∙ cut.0; rest = c.split_at.ensures.back ∙ cut.1 }

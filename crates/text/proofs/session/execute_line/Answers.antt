@@ -10,7 +10,7 @@ returns-in_err-answer g c =
     let i = c.in_ok-instruction.instruction in
     let spelled : (c.args.text.now ≡ spelling i) × Operands64 i = search rules in
     let answer : c.from_residual-in_err-answer.result ≡ numbered (step_answer g.K.Kind.zero_content g.K.Kind.image_of g.K.Kind.content_of
-        (hosted c.args.engine.now.machine c.args.slots.now (g.S.Store.meaning c.args.store.now)) i) c.args.line = search rules in
+    (hosted c.args.engine.now.machine c.args.slots.now (g.S.Store.meaning c.args.store.now)) i) c.args.line = search rules in
     inl (i, spelled.1, spelled.0, answer, c.step.ensures.after)
 
 pub returns : goal.returns
@@ -18,5 +18,5 @@ returns g c =
     let i = c.in_ok-instruction.instruction in
     let spelled : (c.args.text.now ≡ spelling i) × Operands64 i = search rules in
     let answer : Ok c.in_ok-answer.answer ≡ numbered (step_answer g.K.Kind.zero_content g.K.Kind.image_of g.K.Kind.content_of
-        (hosted c.args.engine.now.machine c.args.slots.now (g.S.Store.meaning c.args.store.now)) i) c.args.line = search rules in
+    (hosted c.args.engine.now.machine c.args.slots.now (g.S.Store.meaning c.args.store.now)) i) c.args.line = search rules in
     inl (i, spelled.1, spelled.0, answer, c.step.ensures.after)
