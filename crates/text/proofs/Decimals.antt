@@ -1,50 +1,42 @@
 -- Facts about what a text's digits come to. Assumes nothing.
-use Rattle.std.proofs.Common.{◌≡◌, ℕ, ◌+◌, ◌-◌, ◌*◌, ◌^◌, ◌<◌, ◌≤◌, Bool, true, false, cond, not, ◌&&◌, eqb, ltb, List, [], ◌∷◌, ◌++◌, length, get_or, take, drop, Some, None, Ok, Err, Result, unwrap_or, IsUtf8, decimal, one-add, sym, refl, ap, ◌∙◌, subst, ⊎_elim, arith, rules}
+use Rattle.std.proofs.Common.{◌≡◌, ℕ, ◌+◌, ◌^◌, ◌<◌, ◌≤◌, Bool, true, false, cond, not, ◌&&◌, eqb, ltb, List, [], ◌∷◌, ◌++◌, length, get_or, drop, Some, None, Ok, Err, Result, IsUtf8, decimal, one-add, sym, refl, ap, ◌∙◌, subst, ⊎_elim, arith}
 use Rattle.std.proofs.lemmas.Fmt.{decimal_digit, decimal_nonempty, decimal-digits_value, digits_decimal, first_decimal, IsAscii-from_digits, digits_value-decimal}
-use Rattle.std.proofs.lemmas.List.{nil_from_length}
-use Rattle.std.proofs.lemmas.Str.Parse.{IsNumeralModel, numerals_by_fold, parse_digits, tells_all_ascii_digits}
-use Rattle.std.proofs.lemmas.List.Sums.{prefix_len-le-length}
+use Rattle.std.proofs.lemmas.List.{nil_from_length, take-append-drop}
+use Rattle.std.proofs.lemmas.Str.Parse.{IsNumeralModel, numerals_by_value, parse_digits, tells_all_ascii_digits}
+use Rattle.std.proofs.lemmas.List.Sums.{take_while-cons}
 use Rattle.std.proofs.lemmas.Str.{IsUtf8-from_ascii}
-use Rattle.std.proofs.lemmas.Bool.{and_parts, and_from, and_left, and_right, cases_eq, cases_lt, eq-eqb, ne_eqb, lt-ltb, ltb-true, ltb-false, not_from_false}
+use Rattle.std.proofs.lemmas.Bool.{and_parts, and_from, and_left, and_right, cases_eq, cases_lt, eq-eqb, ne_eqb, lt-ltb, ltb-true, not_from_false}
 use Rattle.std.specs.Char.{is_ascii_digit}
-use Rattle.std.specs.List.{position, position_or_len}
+use Rattle.std.specs.List.{prefix_len}
 use Rattle.std.specs.Result.{MatchResult, OkIff, result_ok}
 use Rattle.std.specs.Str.{all_ascii_digits}
-use Rattle.std.specs.Str.Parse.{ParsesUnsigned}
+use Rattle.std.specs.Str.Parse.{ParsesUnsigned, digits_value}
 use Rattle.text.specs.Numbers.{worth, first_digits, after_digits, begins_with_digit, begins_well, readable, spaced, Takes, Words}
 
-worth_stop : (n : ℕ) (s : List ℕ) → begins_with_digit s ≡ false → worth n s ≡ n
-worth_stop n [] h = refl
-worth_stop n (b ∷ bs) h = ap (λ t. cond t (worth (n * 10 + (b - 48)) bs) n) h
+own : IsNumeralModel (λ ds. all_ascii_digits ds ≡ true) (digits_value 10)
+own = numerals_by_value _ tells_all_ascii_digits
 
-after_stop : (s : List ℕ) → begins_with_digit s ≡ false → after_digits s ≡ s
-after_stop [] h = refl
-after_stop (b ∷ bs) h = ap (λ t. cond t (after_digits bs) (b ∷ bs)) h
+-- one byte more before a text
+after_cons : (b : ℕ) (bs : List ℕ) → after_digits (b ∷ bs) ≡ cond (is_ascii_digit b) (after_digits bs) (b ∷ bs)
+after_cons b bs = elim (is_ascii_digit b) as (λ v. drop (cond v (1 + prefix_len is_ascii_digit bs) 0) (b ∷ bs) ≡ cond v (after_digits bs) (b ∷ bs)) [ true ↦ rw one-add refl | false ↦ refl ]
 
-own : IsNumeralModel (λ ds. all_ascii_digits ds ≡ true) (worth 0)
-own = numerals_by_fold _ tells_all_ascii_digits worth (search rules)
+-- digits, and then no digit
+digits_alone : (t : List ℕ) → begins_with_digit t ≡ false → (first_digits t ≡ []) × (after_digits t ≡ t)
+digits_alone [] stop = (refl, refl)
+digits_alone (c ∷ cs) stop = (take_while-cons is_ascii_digit c cs ∙ ap (λ v. cond v (c ∷ first_digits cs) []) stop, after_cons c cs ∙ ap (λ v. cond v (after_digits cs) (c ∷ cs)) stop)
 
-worth-append : (n : ℕ) (ds t : List ℕ) → all_ascii_digits ds ≡ true → begins_with_digit t ≡ false → worth n (ds ++ t) ≡ worth n ds
-worth-append n [] t h stop = worth_stop n t stop
-worth-append n (c ∷ cs) t h stop =
+digits_split : (ds t : List ℕ) → all_ascii_digits ds ≡ true → begins_with_digit t ≡ false → (first_digits (ds ++ t) ≡ ds) × (after_digits (ds ++ t) ≡ t)
+digits_split [] t h stop = digits_alone t stop
+digits_split (c ∷ cs) t h stop =
     let e = and_parts (is_ascii_digit c) (all_ascii_digits cs) h in
-    let m = n * 10 + (c - 48) in
-    ap (λ b. cond b (worth m (cs ++ t)) n) e.0 ∙ worth-append m cs t e.1 stop ∙ sym (ap (λ b. cond b (worth m cs) n) e.0)
-
-after-append : (ds t : List ℕ) → all_ascii_digits ds ≡ true → begins_with_digit t ≡ false → after_digits (ds ++ t) ≡ t
-after-append [] t h stop = after_stop t stop
-after-append (c ∷ cs) t h stop =
-    let e = and_parts (is_ascii_digit c) (all_ascii_digits cs) h in
-    ap (λ b. cond b (after_digits (cs ++ t)) (c ∷ (cs ++ t))) e.0 ∙ after-append cs t e.1 stop
-
-first_digits-append : (s : List ℕ) → s ≡ first_digits s ++ after_digits s
-first_digits-append [] = refl
-first_digits-append (b ∷ bs) =
-    elim (is_ascii_digit b) as (λ v. b ∷ bs ≡ cond v (b ∷ first_digits bs) [] ++ cond v (after_digits bs) (b ∷ bs)) [ true ↦ ap (λ t. b ∷ t) (first_digits-append bs) | false ↦ refl ]
+    let k = digits_split cs t e.1 stop in (
+      take_while-cons is_ascii_digit c (cs ++ t) ∙ ap (λ v. cond v (c ∷ first_digits (cs ++ t)) []) e.0 ∙ ap (λ x. c ∷ x) k.0,
+      after_cons c (cs ++ t) ∙ ap (λ v. cond v (after_digits (cs ++ t)) (c ∷ (cs ++ t))) e.0 ∙ k.1,
+    )
 
 first_digits_all : (s : List ℕ) → all_ascii_digits (first_digits s) ≡ true
 first_digits_all [] = refl
-first_digits_all (b ∷ bs) = go (is_ascii_digit b) refl (first_digits_all bs)
+first_digits_all (b ∷ bs) = rw take_while-cons (go (is_ascii_digit b) refl (first_digits_all bs))
   where
     go : (v : Bool) → is_ascii_digit b ≡ v → all_ascii_digits (first_digits bs) ≡ true → all_ascii_digits (cond v (b ∷ first_digits bs) []) ≡ true
     go true e h = and_from (is_ascii_digit b) (all_ascii_digits (first_digits bs)) e h
@@ -52,40 +44,32 @@ first_digits_all (b ∷ bs) = go (is_ascii_digit b) refl (first_digits_all bs)
 
 pub after_stops : (s : List ℕ) → begins_with_digit (after_digits s) ≡ false
 after_stops [] = refl
-after_stops (b ∷ bs) = go (is_ascii_digit b) refl (after_stops bs)
+after_stops (b ∷ bs) = rw after_cons (go (is_ascii_digit b) refl (after_stops bs))
   where
     go : (v : Bool) → is_ascii_digit b ≡ v → begins_with_digit (after_digits bs) ≡ false → begins_with_digit (cond v (after_digits bs) (b ∷ bs)) ≡ false
     go true e h = h
     go false e h = e
-
-worth-first_digits : (s : List ℕ) → worth 0 s ≡ worth 0 (first_digits s)
-worth-first_digits s = ap (worth 0) (first_digits-append s) ∙ worth-append 0 (first_digits s) (after_digits s) (first_digits_all s) (after_stops s)
-
-first_digits_none : (s : List ℕ) → begins_with_digit s ≡ false → first_digits s ≡ []
-first_digits_none [] h = refl
-first_digits_none (b ∷ bs) h = ap (λ v. cond v (b ∷ first_digits bs) []) h
 
 -- a text that begins well begins with digits, and with no leading zero
 first_digits_well : (s : List ℕ) → begins_well s ≡ true → (0 < length (first_digits s)) × (get_or (first_digits s) 0 0 ≡ 48 → length (first_digits s) ≡ 1)
 first_digits_well [] h = let z : ◌≡◌ {A = ℕ} 0 1 = cc in absurd (omega arith)
 first_digits_well (b ∷ bs) h =
     let e = and_parts (is_ascii_digit b) (not (eqb b 48 && begins_with_digit bs)) h in
-    let f : first_digits (b ∷ bs) ≡ b ∷ first_digits bs = ap (λ v. cond v (b ∷ first_digits bs) []) e.0 in
+    let f : first_digits (b ∷ bs) ≡ b ∷ first_digits bs = take_while-cons is_ascii_digit b bs ∙ ap (λ v. cond v (b ∷ first_digits bs) []) e.0 in
     let alone : b ≡ 48 → begins_with_digit bs ≡ false = λ q. alone-from (eqb b 48) (begins_with_digit bs) (eq-eqb b 48 q) e.1 in
     subst (λ (xs : List ℕ). (0 < length xs) × (get_or xs 0 0 ≡ 48 → length xs ≡ 1)) (sym f)
-    (omega arith, λ q. ap (λ xs. length (b ∷ xs)) (first_digits_none bs (alone q)))
+    (omega arith, λ q. ap (λ xs. length (b ∷ xs)) (digits_alone bs (alone q)).0)
   where
     alone-from : (x y : Bool) → x ≡ true → not (x && y) ≡ true → y ≡ false
     alone-from x y p q = grind arith
 
 -- a readable text begins with what `{n}` writes of the number
-pub numeral_first : (s : List ℕ) → readable s ≡ true → s ≡ decimal (worth 0 s) ++ after_digits s
+pub numeral_first : (s : List ℕ) → readable s ≡ true → s ≡ decimal (worth s) ++ after_digits s
 numeral_first s h =
-    let e = and_parts (begins_well s) (ltb (worth 0 s) (2 ^ 64)) h in
+    let e = and_parts (begins_well s) (ltb (worth s) (2 ^ 64)) h in
     let w = first_digits_well s e.0 in
-    let small : worth 0 (first_digits s) < 2 ^ 64 = subst (λ n. n < 2 ^ 64) (worth-first_digits s) (ltb-true _ _ e.1) in
-    let d : decimal (worth 0 s) ≡ first_digits s = ap decimal (worth-first_digits s) ∙ decimal-digits_value own (first_digits s) (first_digits_all s) w.0 w.1 small in
-    first_digits-append s ∙ ap (λ ds. ds ++ after_digits s) (sym d)
+    let d : decimal (worth s) ≡ first_digits s = decimal-digits_value own (first_digits s) (first_digits_all s) w.0 w.1 (ltb-true _ _ e.1) in
+    sym (take-append-drop (prefix_len is_ascii_digit s) s) ∙ ap (λ ds. ds ++ after_digits s) (sym d)
 
 zero_alone : (n : ℕ) → n < 2 ^ 64 → get_or (decimal n) 0 0 ≡ 48 → length (decimal n) ≡ 1
 zero_alone n small h = ⊎_elim (λ pos. absurd (omega (arith, first_decimal n pos small))) (λ nil. ap length (decimal_digit n (omega arith))) (cases_lt 0 n)
@@ -100,32 +84,7 @@ well_append (c ∷ cs) t h some alone stop =
     (λ q. not_from_false _ (and_left (eqb c 48) (begins_with_digit (cs ++ t)) (ne_eqb c 48 q)))
     (cases_eq c 48))
 
--- the bytes before the first that is no digit, and those from it on
-take-first_digits : (s : List ℕ) → take (position_or_len (λ b. not (is_ascii_digit b)) s) s ≡ first_digits s
-take-first_digits [] = refl
-take-first_digits (b ∷ bs) = elim (is_ascii_digit b) as (λ v. take (cond (not (not v)) (1 + position_or_len (λ x. not (is_ascii_digit x)) bs) 0) (b ∷ bs) ≡ cond v (b ∷ first_digits bs) []) [
-  | true ↦ rw one-add (ap (λ x. b ∷ x) (take-first_digits bs))
-  | false ↦ refl
-]
-
-drop-first_digits : (s : List ℕ) → drop (position_or_len (λ b. not (is_ascii_digit b)) s) s ≡ after_digits s
-drop-first_digits [] = refl
-drop-first_digits (b ∷ bs) = elim (is_ascii_digit b) as (λ v. drop (cond (not (not v)) (1 + position_or_len (λ x. not (is_ascii_digit x)) bs) 0) (b ∷ bs) ≡ cond v (after_digits bs) (b ∷ bs)) [
-  | true ↦ rw one-add (drop-first_digits bs)
-  | false ↦ refl
-]
-
-unwrapped : (p n : ℕ) (v : Bool) → ltb p n ≡ v → p ≤ n → unwrap_or (cond v (Some p) None) n ≡ p
-unwrapped p n true h le = refl
-unwrapped p n false h le = omega (arith, ltb-false p n h)
-
-pub digits_cut : (s : List ℕ) (n : ℕ) → n ≡ unwrap_or (position (λ b. not (is_ascii_digit b)) s) (length s) → (take n s ≡ first_digits s) × (drop n s ≡ after_digits s)
-digits_cut s n e =
-    let p = position_or_len (λ b. not (is_ascii_digit b)) s in
-    let at : n ≡ p = e ∙ unwrapped p (length s) (ltb p (length s)) refl (prefix_len-le-length (λ b. not (not (is_ascii_digit b))) s) in
-    rw at (take-first_digits s, drop-first_digits s)
-
--- they are text
+-- the digits that a text begins with are a `str`
 digits_text : (s : List ℕ) → IsUtf8 (first_digits s)
 digits_text s = IsUtf8-from_ascii (first_digits s) (IsAscii-from_digits (first_digits s) (own.to (first_digits s) (first_digits_all s)))
 
@@ -135,7 +94,7 @@ not_true_false false h = refl
 
 -- a 0 before another digit
 pub zero_led : (s : List ℕ) → 2 ≤ length (first_digits s) → get_or (first_digits s) 0 0 ≡ 48 → readable s ≡ false
-zero_led s long zero = not_true_false (readable s) (λ h. omega (arith, (first_digits_well s (and_parts (begins_well s) (ltb (worth 0 s) (2 ^ 64)) h).0).1 zero))
+zero_led s long zero = not_true_false (readable s) (λ h. omega (arith, (first_digits_well s (and_parts (begins_well s) (ltb (worth s) (2 ^ 64)) h).0).1 zero))
 
 pub digits_read : {X E : Type 0} (P : X → Type 0) (Q : E → Type 0) (s ds : List ℕ) (r : Result X E) → ds ≡ first_digits s → MatchResult r P (λ e. ¬ (IsUtf8 ds) × Q e) → result_ok r ≡ None → ⊥
 digits_read P Q s ds (Ok x) e h none = cc
@@ -145,31 +104,32 @@ digits_read P Q s ds (Err x) e h none = h.0 (rw e (digits_text s))
 pub number_none : {E : Type 0} (s : List ℕ) (r : Result ℕ E) → ParsesUnsigned 64 10 (first_digits s) r → result_ok r ≡ None → readable s ≡ false
 number_none {E = E} s r h none = go r (parse_digits own 64 (first_digits s) r h (first_digits_all s)) none
   where
-    go : (r : Result ℕ E) → OkIff r ((0 < length (first_digits s)) × (worth 0 (first_digits s) < 2 ^ 64)) (worth 0 (first_digits s)) → result_ok r ≡ None → readable s ≡ false
+    go : (r : Result ℕ E) → OkIff r ((0 < length (first_digits s)) × (worth s < 2 ^ 64)) (worth s) → result_ok r ≡ None → readable s ≡ false
     go (Ok n) k none = cc
-    go (Err e) k none = not_true_false (readable s) (λ t. let e = and_parts (begins_well s) (ltb (worth 0 s) (2 ^ 64)) t in k ((first_digits_well s e.0).0, omega (arith, worth-first_digits s, ltb-true _ _ e.1)))
+    go (Err e) k none = not_true_false (readable s) (λ t. let e = and_parts (begins_well s) (ltb (worth s) (2 ^ 64)) t in k ((first_digits_well s e.0).0, ltb-true _ _ e.1))
 
 pub number_some : {E : Type 0} (s : List ℕ) (r : Result ℕ E) (n : ℕ) → ParsesUnsigned 64 10 (first_digits s) r → result_ok r ≡ Some n
-    → (get_or (first_digits s) 0 0 ≡ 48 → length (first_digits s) ≤ 1) → (readable s ≡ true) × (n ≡ worth 0 s)
+    → (get_or (first_digits s) 0 0 ≡ 48 → length (first_digits s) ≤ 1) → (readable s ≡ true) × (n ≡ worth s)
 number_some {E = E} s r n h some alone = go r (parse_digits own 64 (first_digits s) r h (first_digits_all s)) some
   where
-    go : (r : Result ℕ E) → OkIff r ((0 < length (first_digits s)) × (worth 0 (first_digits s) < 2 ^ 64)) (worth 0 (first_digits s)) → result_ok r ≡ Some n → (readable s ≡ true) × (n ≡ worth 0 s)
+    go : (r : Result ℕ E) → OkIff r ((0 < length (first_digits s)) × (worth s < 2 ^ 64)) (worth s) → result_ok r ≡ Some n → (readable s ≡ true) × (n ≡ worth s)
     go (Ok m) k some =
         let same : m ≡ n = cc in (
           and_from _ _
-              (ap begins_well (first_digits-append s) ∙ well_append (first_digits s) (after_digits s) (first_digits_all s) k.0.0 (λ z. omega (arith, alone z, k.0.0)) (after_stops s))
-              (lt-ltb _ _ (omega (arith, worth-first_digits s, k.0.1))),
-          sym same ∙ k.1 ∙ sym (worth-first_digits s),
+              (ap begins_well (sym (take-append-drop (prefix_len is_ascii_digit s) s)) ∙ well_append (first_digits s) (after_digits s) (first_digits_all s) k.0.0 (λ z. omega (arith, alone z, k.0.0)) (after_stops s))
+              (lt-ltb _ _ k.0.1),
+          sym same ∙ k.1,
         )
     go (Err e) k some = cc
 
 -- what `{n}` writes, and then no digit, is readable, and read as n
 pub numeral_only : (n : ℕ) (t : List ℕ) → n < 2 ^ 64 → begins_with_digit t ≡ false
-    → (readable (decimal n ++ t) ≡ true) × (worth 0 (decimal n ++ t) ≡ n) × (after_digits (decimal n ++ t) ≡ t)
+    → (readable (decimal n ++ t) ≡ true) × (worth (decimal n ++ t) ≡ n) × (after_digits (decimal n ++ t) ≡ t)
 numeral_only n t small stop =
     let ds = digits_decimal own n small in
-    let v : worth 0 (decimal n ++ t) ≡ n = worth-append 0 (decimal n) t ds stop ∙ digits_value-decimal own n small in
-    (and_from _ _ (well_append (decimal n) t ds (decimal_nonempty n small) (zero_alone n small) stop) (lt-ltb _ _ (omega (arith, v))), v, after-append (decimal n) t ds stop)
+    let split = digits_split (decimal n) t ds stop in
+    let v : worth (decimal n ++ t) ≡ n = ap (digits_value 10) split.0 ∙ digits_value-decimal own n small in
+    (and_from _ _ (well_append (decimal n) t ds (decimal_nonempty n small) (zero_alone n small) stop) (lt-ltb _ _ (omega (arith, v))), v, split.1)
 
 -- a text begins with one operand at most
 pub operand_only : (s : List ℕ) (m n : ℕ) (t u : List ℕ) → m < 2 ^ 64 → n < 2 ^ 64 → Takes s m t → Takes s n u → (m ≡ n) × (t ≡ u)
@@ -177,7 +137,7 @@ operand_only s m n t u p q h k =
     let e : decimal m ++ t ≡ decimal n ++ u = ap (drop 1) (sym h.0 ∙ k.0) in
     let a = numeral_only m t p h.1 in
     let b = numeral_only n u q k.1 in
-    (sym a.1 ∙ ap (worth 0) e ∙ b.1, sym a.2 ∙ ap after_digits e ∙ b.2)
+    (sym a.1 ∙ ap worth e ∙ b.1, sym a.2 ∙ ap after_digits e ∙ b.2)
 
 pub spaced_stops : (ns : List ℕ) → begins_with_digit (spaced ns) ≡ false
 spaced_stops [] = refl

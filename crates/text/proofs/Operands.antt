@@ -8,7 +8,7 @@ use Rattle.text.specs.Numbers.{worth, after_digits, begins_with_digit, readable,
 use Rattle.text.proofs.Decimals.{after_stops, numeral_first, numeral_only, operand_only, spaced_stops}
 
 -- an operand is a space and what `number` reads
-operand_some : (s d t : List ℕ) (n : ℕ) → s ≡ 32 ∷ d → readable d ≡ true → n ≡ worth 0 d → t ≡ after_digits d → Takes s n t
+operand_some : (s d t : List ℕ) (n : ℕ) → s ≡ 32 ∷ d → readable d ≡ true → n ≡ worth d → t ≡ after_digits d → Takes s n t
 operand_some s d t n e h v a = (
   e ∙ ap (λ x. 32 ∷ x) (numeral_first d h) ∙ ap (λ x. 32 ∷ (decimal x ++ after_digits d)) (sym v) ∙ ap (λ x. 32 ∷ (decimal n ++ x)) (sym a),
   ap begins_with_digit a ∙ after_stops d,

@@ -1,8 +1,9 @@
 -- Numbers as a line writes them. Assumes nothing.
-use Rattle.std.specs.Prelude.{◌≡◌, ℕ, ◌+◌, ◌-◌, ◌*◌, ◌^◌, ◌<◌, Bool, true, false, if◌then◌else◌, not, ◌&&◌, List, [], ◌∷◌, ◌++◌, Some, None, decimal, Option, ◌==◌, nat_lt}
+use Rattle.std.specs.Prelude.{◌≡◌, ℕ, ◌^◌, ◌<◌, Bool, true, false, not, ◌&&◌, List, [], ◌∷◌, ◌++◌, drop, Some, None, decimal, Option, ◌==◌, nat_lt}
 use Rattle.std.specs.Borrow.{Bor}
 use Rattle.std.specs.Char.{is_ascii_digit}
-use Rattle.std.specs.List.{AllByRecursion, flat_map}
+use Rattle.std.specs.List.{AllByRecursion, flat_map, prefix_len, take_while}
+use Rattle.std.specs.Str.Parse.{digits_value}
 
 -- for each number a space and its decimal digits
 abbrev pub spaced : List ℕ → List ℕ
@@ -16,20 +17,17 @@ abbrev pub begins_with_digit : List ℕ → Bool
 begins_with_digit [] = false
 begins_with_digit (b ∷ bs) = is_ascii_digit b
 
--- what the digits that a text begins with come to, after digits that come to n
-abbrev pub worth : ℕ → List ℕ → ℕ
-worth n [] = n
-worth n (b ∷ bs) = if is_ascii_digit b then worth (n * 10 + (b - 48)) bs else n
-
 -- the digits that a text begins with
 abbrev pub first_digits : List ℕ → List ℕ
-first_digits [] = []
-first_digits (b ∷ bs) = if is_ascii_digit b then b ∷ first_digits bs else []
+first_digits s = take_while is_ascii_digit s
 
--- what follows those digits
+-- what they come to
+abbrev pub worth : List ℕ → ℕ
+worth s = digits_value 10 (first_digits s)
+
+-- what follows them
 abbrev pub after_digits : List ℕ → List ℕ
-after_digits [] = []
-after_digits (b ∷ bs) = if is_ascii_digit b then after_digits bs else b ∷ bs
+after_digits s = drop (prefix_len is_ascii_digit s) s
 
 -- a digit comes first, and no 0 before another digit
 abbrev pub begins_well : List ℕ → Bool
@@ -38,11 +36,11 @@ begins_well (b ∷ bs) = is_ascii_digit b && not (b == 48 && begins_with_digit b
 
 -- a number below 2 ^ 64 without leading zeros comes first
 abbrev pub readable : List ℕ → Bool
-readable s = begins_well s && nat_lt (worth 0 s) (2 ^ 64)
+readable s = begins_well s && nat_lt (worth s) (2 ^ 64)
 
 -- the answer is the number that s begins with and what follows it, or none
 abbrev pub NumberOf : List ℕ → Option (ℕ × Bor (List ℕ)) → Type 0
-NumberOf s (Some p) = (readable s ≡ true) × (p.0 ≡ worth 0 s) × (p.1.now ≡ after_digits s)
+NumberOf s (Some p) = (readable s ≡ true) × (p.0 ≡ worth s) × (p.1.now ≡ after_digits s)
 NumberOf s None = readable s ≡ false
 
 -- s is a space, the digits of n, and t, which begins with no digit

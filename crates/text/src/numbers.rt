@@ -7,8 +7,8 @@ fn split_digits(text: &[u8]) -> (&[u8], &[u8])
     ensures digits { result.0.now ≡ first_digits text.now }
     ensures rest { result.1.now ≡ after_digits text.now }
 {
-    let end = text.iter().position(|b| !b.is_ascii_digit());
-    text.split_at(end.unwrap_or(text.len()))
+    let digits = text.iter().take_while(|b| b.is_ascii_digit());
+    text.split_at(digits.count())
 }
 
 // A decimal number below 2^64 without leading zeros, and what follows it.
