@@ -2,56 +2,39 @@
 // and prints the answers (docs/RULES.md, "The runner").
 #![tactic(auto)]
 
-use anyhow::anyhow;
 use register::{Slot, Word};
-use std::io;
 use std::io::{Read, Write};
+use std::{array, io};
 use store::PagedStore;
 use text::run_session;
 
-// Bytes of a session that are read; what follows is not executed.
+// Bytes of a session that are executed; what follows is not.
 const LONGEST_INPUT: usize = 65536;
 
-// Standard input up to the limit, and whether there was more.
-fn read_input(rt: &HostRuntime) -> io::Result<(Vec<u8>, bool)> {
-    let mut stdin = rt.stdin();
+// Standard input, up to one byte past the limit.
+fn read_input(rt: &HostRuntime) -> io::Result<Vec<u8>> {
     let mut input = Vec::new(rt.alloc());
-    for _ in 0..u64::MAX {
-        let mut block = [0u8; 4096];
-        let n = stdin.read(&mut block)?;
-        if n == 0 || input.len() > LONGEST_INPUT {
-            break;
-        }
-        input.extend_from_slice(&block[0..n])?;
-    }
-    let cut = input.len() > LONGEST_INPUT;
-    input.truncate(LONGEST_INPUT);
-    Ok((input, cut))
-}
-
-// Page p lies in frame 63 − p.
-fn frames() -> [u64; 64] {
-    let mut frames = [0u64; 64];
-    for page in 0..64u64 {
-        frames[page as usize] = 63 - page;
-    }
-    frames
+    rt.stdin()
+        .take(LONGEST_INPUT as u64 + 1)
+        .read_to_end(&mut input)?;
+    Ok(input)
 }
 
 fn run(rt: &HostRuntime, memory: &mut [u64]) -> anyhow::Result<()> {
-    let (input, cut) = read_input(rt)?;
-    if cut {
+    let input = read_input(rt)?;
+    let (session, rest) = input.split_at(input.len().min(LONGEST_INPUT));
+    if !rest.is_empty() {
         eprintln!(rt; "rse-run: the input was cut after {LONGEST_INPUT} bytes")?;
     }
-    let mut store = PagedStore::new(rt.alloc(), memory, &frames())?;
+    // Page p lies in frame 63 − p.
+    let frames: [u64; 64] = array::from_fn(|page| 63 - page as u64);
+    let mut store = PagedStore::new(rt.alloc(), memory, &frames)?;
     let mut slots = [Slot {
         content: Word { value: 0 },
         nat: false,
     }; 96];
-    match run_session(rt.alloc(), &mut slots, &mut store, &input) {
-        Ok(printed) => rt.stdout().write_all(&printed)?,
-        Err(_) => return Err(anyhow!("no memory for the answers")),
-    }
+    let printed = run_session(rt.alloc(), &mut slots, &mut store, session)?;
+    rt.stdout().write_all(&printed)?;
     Ok(())
 }
 

@@ -4,9 +4,7 @@ use text::first_line;
 
 // The first line and what follows it are these.
 fn cut(rt: &impl Abort, input: &[u8], line: &[u8], after: &[u8]) {
-    let (l, t) = first_line(input);
-    assert!(rt; l == line);
-    assert!(rt; t == after);
+    assert_eq!(rt; first_line(input), (line, after));
 }
 
 #[test]

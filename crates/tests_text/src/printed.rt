@@ -9,19 +9,19 @@ use text::{Outcome, RunFault, print_line};
 // The outcome is printed so.
 fn shown(rt: &impl Abort, heap: Global, outcome: Outcome, line: &[u8]) -> Result<(), Fail> {
     let out = print_line(heap, outcome)?;
-    assert!(rt; out.as_slice() == line);
+    assert_eq!(rt; out.as_slice(), line);
     Ok(())
 }
 
 #[test]
 fn granted(rt: HostRuntime) -> Result<(), Fail> {
     let heap = rt.alloc();
-    shown(&rt, heap, Outcome::Granted(Answer::Done), b"ok\n")?;
-    shown(&rt, heap, Outcome::Granted(Answer::Marker(0)), b"ok 0\n")?;
+    shown(&rt, heap, Ok(Answer::Done), b"ok\n")?;
+    shown(&rt, heap, Ok(Answer::Marker(0)), b"ok 0\n")?;
     shown(
         &rt,
         heap,
-        Outcome::Granted(Answer::Register {
+        Ok(Answer::Register {
             image: 7,
             nat: true,
         }),
@@ -30,7 +30,7 @@ fn granted(rt: HostRuntime) -> Result<(), Fail> {
     shown(
         &rt,
         heap,
-        Outcome::Granted(Answer::Flushed {
+        Ok(Answer::Flushed {
             bsp: 4,
             rnat: 18446744073709551615,
         }),
@@ -39,7 +39,7 @@ fn granted(rt: HostRuntime) -> Result<(), Fail> {
     shown(
         &rt,
         heap,
-        Outcome::Granted(Answer::Counts {
+        Ok(Answer::Counts {
             written: 10,
             read: 9,
         }),
@@ -53,7 +53,7 @@ fn refused(rt: HostRuntime) -> Result<(), Fail> {
     shown(
         &rt,
         heap,
-        Outcome::Refused(RunFault {
+        Err(RunFault {
             refusal: Refusal::Unreadable,
             line: 3,
         }),
@@ -62,7 +62,7 @@ fn refused(rt: HostRuntime) -> Result<(), Fail> {
     shown(
         &rt,
         heap,
-        Outcome::Refused(RunFault {
+        Err(RunFault {
             refusal: Refusal::Host,
             line: 3,
         }),

@@ -3,43 +3,45 @@ use engine::Instruction;
 use std::process::Abort;
 use text::read_line;
 
+// The line spells this instruction.
+fn read(rt: &impl Abort, line: &[u8], instruction: Instruction) {
+    assert_eq!(rt; read_line(line), Some(instruction));
+}
+
 // The line is not readable.
 fn refused(rt: &impl Abort, line: &[u8]) {
-    assert!(rt; read_line(line).is_none());
+    assert_eq!(rt; read_line(line), None);
 }
 
 #[test]
 fn readable(rt: HostRuntime) {
-    assert!(rt; matches!(read_line(b"c"), Some(Instruction::Call)));
-    assert!(rt; matches!(read_line(b"g 0"), Some(Instruction::Read { register: 0 })));
-    assert!(rt;
-        matches!(
-            read_line(b"y 10 9"),
-            Some(Instruction::Copy {
-                target: 10,
-                source: 9
-            })
-        )
+    read(&rt, b"c", Instruction::Call);
+    read(&rt, b"g 0", Instruction::Read { register: 0 });
+    read(
+        &rt,
+        b"y 10 9",
+        Instruction::Copy {
+            target: 10,
+            source: 9,
+        },
     );
-    assert!(rt;
-        matches!(
-            read_line(b"w 34 18446744073709551615 1"),
-            Some(Instruction::Write {
-                register: 34,
-                word: 18446744073709551615,
-                nat: 1
-            })
-        )
+    read(
+        &rt,
+        b"w 34 18446744073709551615 1",
+        Instruction::Write {
+            register: 34,
+            word: 18446744073709551615,
+            nat: 1,
+        },
     );
-    assert!(rt;
-        matches!(
-            read_line(b"b 1 64 128"),
-            Some(Instruction::Begin {
-                context: 1,
-                start: 64,
-                size: 128
-            })
-        )
+    read(
+        &rt,
+        b"b 1 64 128",
+        Instruction::Begin {
+            context: 1,
+            start: 64,
+            size: 128,
+        },
     );
 }
 

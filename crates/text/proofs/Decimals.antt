@@ -1,118 +1,75 @@
 -- Facts about what a text's digits come to. Assumes nothing.
-use Rattle.std.proofs.Common.{◌≡◌, ℕ, ◌+◌, ◌-◌, ◌*◌, ◌^◌, ◌<◌, ◌≤◌, Bool, true, false, cond, not, ◌&&◌, eqb, ltb, List, [], ◌∷◌, ◌++◌, length, get_or, take, drop, decimal, sym, refl, ap, ◌∙◌, subst, ⊎_elim, arith, rules}
-use Rattle.std.proofs.lemmas.Fmt.{decimal_digit, decimal_nonempty, decimal-digits_value, digits_decimal, first_decimal, digits_value-decimal}
-use Rattle.std.proofs.lemmas.List.{nil_from_length, take_all}
-use Rattle.std.proofs.lemmas.Str.Parse.{IsNumeralModel, numerals_by_fold, tells_all_ascii_digits}
+use Rattle.std.proofs.Common.{◌≡◌, ℕ, ◌+◌, ◌^◌, ◌<◌, ◌≤◌, Bool, true, false, cond, not, ◌&&◌, eqb, ltb, List, [], ◌∷◌, ◌++◌, length, get_or, drop, Some, None, Ok, Err, Result, IsUtf8, decimal, one-add, sym, refl, ap, ◌∙◌, subst, ⊎_elim, arith}
+use Rattle.std.proofs.lemmas.Fmt.{decimal_digit, decimal_nonempty, decimal-digits_value, digits_decimal, first_decimal, IsAscii-from_digits, digits_value-decimal}
+use Rattle.std.proofs.lemmas.List.{nil_from_length, take-append-drop}
+use Rattle.std.proofs.lemmas.Str.Parse.{IsNumeralModel, numerals_by_value, parse_digits, tells_all_ascii_digits}
+use Rattle.std.proofs.lemmas.List.Sums.{take_while-cons}
+use Rattle.std.proofs.lemmas.Str.{IsUtf8-from_ascii}
 use Rattle.std.proofs.lemmas.Bool.{and_parts, and_from, and_left, and_right, cases_eq, cases_lt, eq-eqb, ne_eqb, lt-ltb, ltb-true, not_from_false}
-use Rattle.std.proofs.lemmas.Bool.Decides.{nat_tests}
 use Rattle.std.specs.Char.{is_ascii_digit}
+use Rattle.std.specs.List.{prefix_len}
+use Rattle.std.specs.Result.{MatchResult, OkIff, result_ok}
 use Rattle.std.specs.Str.{all_ascii_digits}
-use Rattle.text.specs.Numbers.{worth, after_digits, begins_with_digit, begins_well, readable, spaced, Takes, Words}
+use Rattle.std.specs.Str.Parse.{ParsesUnsigned, digits_value}
+use Rattle.text.specs.Numbers.{worth, first_digits, after_digits, begins_with_digit, begins_well, readable, spaced, Takes, Words}
 
-pub begins : (s : List ℕ) → 0 < length s → 48 ≤ get_or s 0 0 → get_or s 0 0 < 58 → begins_with_digit s ≡ true
-begins [] h lo hi = let z : ⊥ = omega arith in absurd z
-begins (b ∷ bs) h lo hi = grind (arith, nat_tests)
+own : IsNumeralModel (λ ds. all_ascii_digits ds ≡ true) (digits_value 10)
+own = numerals_by_value _ tells_all_ascii_digits
 
-pub begins_not : (s : List ℕ) → (0 < length s → 48 ≤ get_or s 0 0 → get_or s 0 0 < 58 → ⊥) → begins_with_digit s ≡ false
-begins_not [] no_digit = refl
-begins_not (b ∷ bs) no_digit = grind (arith, nat_tests)
+-- one byte more before a text
+after_cons : (b : ℕ) (bs : List ℕ) → after_digits (b ∷ bs) ≡ cond (is_ascii_digit b) (after_digits bs) (b ∷ bs)
+after_cons b bs = elim (is_ascii_digit b) as (λ v. drop (cond v (1 + prefix_len is_ascii_digit bs) 0) (b ∷ bs) ≡ cond v (after_digits bs) (b ∷ bs)) [ true ↦ rw one-add refl | false ↦ refl ]
 
--- one digit on: what is left is as code cuts it off
-pub worth_step : (n : ℕ) (s : List ℕ) → begins_with_digit s ≡ true → worth n s ≡ worth (n * 10 + (get_or s 0 0 - 48)) (take (length s - 1) (drop 1 s))
-worth_step n [] h = cc
-worth_step n (b ∷ bs) h =
-    ap (λ t. cond t (worth (n * 10 + (b - 48)) bs) n) h ∙ ap (worth (n * 10 + (b - 48))) (sym (take_all (length (b ∷ bs) - 1) bs (omega arith)))
+-- digits, and then no digit
+digits_alone : (t : List ℕ) → begins_with_digit t ≡ false → (first_digits t ≡ []) × (after_digits t ≡ t)
+digits_alone [] stop = (refl, refl)
+digits_alone (c ∷ cs) stop = (take_while-cons is_ascii_digit c cs ∙ ap (λ v. cond v (c ∷ first_digits cs) []) stop, after_cons c cs ∙ ap (λ v. cond v (after_digits cs) (c ∷ cs)) stop)
 
-pub after_step : (s : List ℕ) → begins_with_digit s ≡ true → after_digits s ≡ after_digits (take (length s - 1) (drop 1 s))
-after_step [] h = cc
-after_step (b ∷ bs) h = ap (λ t. cond t (after_digits bs) (b ∷ bs)) h ∙ ap after_digits (sym (take_all (length (b ∷ bs) - 1) bs (omega arith)))
-
-pub worth_stop : (n : ℕ) (s : List ℕ) → begins_with_digit s ≡ false → worth n s ≡ n
-worth_stop n [] h = refl
-worth_stop n (b ∷ bs) h = ap (λ t. cond t (worth (n * 10 + (b - 48)) bs) n) h
-
-pub after_stop : (s : List ℕ) → begins_with_digit s ≡ false → after_digits s ≡ s
-after_stop [] h = refl
-after_stop (b ∷ bs) h = ap (λ t. cond t (after_digits bs) (b ∷ bs)) h
-
-pub worth_grows : (n : ℕ) (s : List ℕ) → n ≤ worth n s
-worth_grows n [] = omega arith
-worth_grows n (b ∷ bs) =
-    elim (is_ascii_digit b) as (λ t. n ≤ cond t (worth (n * 10 + (b - 48)) bs) n) [
-      | true ↦ omega (arith, worth_grows (n * 10 + (b - 48)) bs)
-      | false ↦ omega arith
-    ]
-
--- The digits that a text begins with.
-abbrev front : List ℕ → List ℕ
-front [] = []
-front (b ∷ bs) = cond (is_ascii_digit b) (b ∷ front bs) []
-
-own : IsNumeralModel (λ ds. all_ascii_digits ds ≡ true) (worth 0)
-own = numerals_by_fold _ tells_all_ascii_digits worth (search rules)
-
-worth-append : (n : ℕ) (ds t : List ℕ) → all_ascii_digits ds ≡ true → begins_with_digit t ≡ false → worth n (ds ++ t) ≡ worth n ds
-worth-append n [] t h stop = worth_stop n t stop
-worth-append n (c ∷ cs) t h stop =
+digits_split : (ds t : List ℕ) → all_ascii_digits ds ≡ true → begins_with_digit t ≡ false → (first_digits (ds ++ t) ≡ ds) × (after_digits (ds ++ t) ≡ t)
+digits_split [] t h stop = digits_alone t stop
+digits_split (c ∷ cs) t h stop =
     let e = and_parts (is_ascii_digit c) (all_ascii_digits cs) h in
-    let m = n * 10 + (c - 48) in
-    ap (λ b. cond b (worth m (cs ++ t)) n) e.0 ∙ worth-append m cs t e.1 stop ∙ sym (ap (λ b. cond b (worth m cs) n) e.0)
+    let k = digits_split cs t e.1 stop in (
+      take_while-cons is_ascii_digit c (cs ++ t) ∙ ap (λ v. cond v (c ∷ first_digits (cs ++ t)) []) e.0 ∙ ap (λ x. c ∷ x) k.0,
+      after_cons c (cs ++ t) ∙ ap (λ v. cond v (after_digits (cs ++ t)) (c ∷ (cs ++ t))) e.0 ∙ k.1,
+    )
 
-after-append : (ds t : List ℕ) → all_ascii_digits ds ≡ true → begins_with_digit t ≡ false → after_digits (ds ++ t) ≡ t
-after-append [] t h stop = after_stop t stop
-after-append (c ∷ cs) t h stop =
-    let e = and_parts (is_ascii_digit c) (all_ascii_digits cs) h in
-    ap (λ b. cond b (after_digits (cs ++ t)) (c ∷ (cs ++ t))) e.0 ∙ after-append cs t e.1 stop
-
-front-append : (s : List ℕ) → s ≡ front s ++ after_digits s
-front-append [] = refl
-front-append (b ∷ bs) =
-    elim (is_ascii_digit b) as (λ v. b ∷ bs ≡ cond v (b ∷ front bs) [] ++ cond v (after_digits bs) (b ∷ bs)) [ true ↦ ap (λ t. b ∷ t) (front-append bs) | false ↦ refl ]
-
-front-digits : (s : List ℕ) → all_ascii_digits (front s) ≡ true
-front-digits [] = refl
-front-digits (b ∷ bs) = go (is_ascii_digit b) refl (front-digits bs)
+first_digits_all : (s : List ℕ) → all_ascii_digits (first_digits s) ≡ true
+first_digits_all [] = refl
+first_digits_all (b ∷ bs) = rw take_while-cons (go (is_ascii_digit b) refl (first_digits_all bs))
   where
-    go : (v : Bool) → is_ascii_digit b ≡ v → all_ascii_digits (front bs) ≡ true → all_ascii_digits (cond v (b ∷ front bs) []) ≡ true
-    go true e h = and_from (is_ascii_digit b) (all_ascii_digits (front bs)) e h
+    go : (v : Bool) → is_ascii_digit b ≡ v → all_ascii_digits (first_digits bs) ≡ true → all_ascii_digits (cond v (b ∷ first_digits bs) []) ≡ true
+    go true e h = and_from (is_ascii_digit b) (all_ascii_digits (first_digits bs)) e h
     go false e h = refl
 
 pub after_stops : (s : List ℕ) → begins_with_digit (after_digits s) ≡ false
 after_stops [] = refl
-after_stops (b ∷ bs) = go (is_ascii_digit b) refl (after_stops bs)
+after_stops (b ∷ bs) = rw after_cons (go (is_ascii_digit b) refl (after_stops bs))
   where
     go : (v : Bool) → is_ascii_digit b ≡ v → begins_with_digit (after_digits bs) ≡ false → begins_with_digit (cond v (after_digits bs) (b ∷ bs)) ≡ false
     go true e h = h
     go false e h = e
 
-worth-front : (s : List ℕ) → worth 0 s ≡ worth 0 (front s)
-worth-front s = ap (worth 0) (front-append s) ∙ worth-append 0 (front s) (after_digits s) (front-digits s) (after_stops s)
-
-front_none : (s : List ℕ) → begins_with_digit s ≡ false → front s ≡ []
-front_none [] h = refl
-front_none (b ∷ bs) h = ap (λ v. cond v (b ∷ front bs) []) h
-
 -- a text that begins well begins with digits, and with no leading zero
-front_well : (s : List ℕ) → begins_well s ≡ true → (0 < length (front s)) × (get_or (front s) 0 0 ≡ 48 → length (front s) ≡ 1)
-front_well [] h = let z : ◌≡◌ {A = ℕ} 0 1 = cc in absurd (omega arith)
-front_well (b ∷ bs) h =
+first_digits_well : (s : List ℕ) → begins_well s ≡ true → (0 < length (first_digits s)) × (get_or (first_digits s) 0 0 ≡ 48 → length (first_digits s) ≡ 1)
+first_digits_well [] h = let z : ◌≡◌ {A = ℕ} 0 1 = cc in absurd (omega arith)
+first_digits_well (b ∷ bs) h =
     let e = and_parts (is_ascii_digit b) (not (eqb b 48 && begins_with_digit bs)) h in
-    let f : front (b ∷ bs) ≡ b ∷ front bs = ap (λ v. cond v (b ∷ front bs) []) e.0 in
+    let f : first_digits (b ∷ bs) ≡ b ∷ first_digits bs = take_while-cons is_ascii_digit b bs ∙ ap (λ v. cond v (b ∷ first_digits bs) []) e.0 in
     let alone : b ≡ 48 → begins_with_digit bs ≡ false = λ q. alone-from (eqb b 48) (begins_with_digit bs) (eq-eqb b 48 q) e.1 in
     subst (λ (xs : List ℕ). (0 < length xs) × (get_or xs 0 0 ≡ 48 → length xs ≡ 1)) (sym f)
-    (omega arith, λ q. ap (λ xs. length (b ∷ xs)) (front_none bs (alone q)))
+    (omega arith, λ q. ap (λ xs. length (b ∷ xs)) (digits_alone bs (alone q)).0)
   where
     alone-from : (x y : Bool) → x ≡ true → not (x && y) ≡ true → y ≡ false
     alone-from x y p q = grind arith
 
 -- a readable text begins with what `{n}` writes of the number
-pub numeral_first : (s : List ℕ) → readable s ≡ true → s ≡ decimal (worth 0 s) ++ after_digits s
+pub numeral_first : (s : List ℕ) → readable s ≡ true → s ≡ decimal (worth s) ++ after_digits s
 numeral_first s h =
-    let e = and_parts (begins_well s) (ltb (worth 0 s) (2 ^ 64)) h in
-    let w = front_well s e.0 in
-    let small : worth 0 (front s) < 2 ^ 64 = subst (λ n. n < 2 ^ 64) (worth-front s) (ltb-true _ _ e.1) in
-    let d : decimal (worth 0 s) ≡ front s = ap decimal (worth-front s) ∙ decimal-digits_value own (front s) (front-digits s) w.0 w.1 small in
-    front-append s ∙ ap (λ ds. ds ++ after_digits s) (sym d)
+    let e = and_parts (begins_well s) (ltb (worth s) (2 ^ 64)) h in
+    let w = first_digits_well s e.0 in
+    let d : decimal (worth s) ≡ first_digits s = decimal-digits_value own (first_digits s) (first_digits_all s) w.0 w.1 (ltb-true _ _ e.1) in
+    sym (take-append-drop (prefix_len is_ascii_digit s) s) ∙ ap (λ ds. ds ++ after_digits s) (sym d)
 
 zero_alone : (n : ℕ) → n < 2 ^ 64 → get_or (decimal n) 0 0 ≡ 48 → length (decimal n) ≡ 1
 zero_alone n small h = ⊎_elim (λ pos. absurd (omega (arith, first_decimal n pos small))) (λ nil. ap length (decimal_digit n (omega arith))) (cases_lt 0 n)
@@ -127,13 +84,52 @@ well_append (c ∷ cs) t h some alone stop =
     (λ q. not_from_false _ (and_left (eqb c 48) (begins_with_digit (cs ++ t)) (ne_eqb c 48 q)))
     (cases_eq c 48))
 
+-- the digits that a text begins with are a `str`
+digits_text : (s : List ℕ) → IsUtf8 (first_digits s)
+digits_text s = IsUtf8-from_ascii (first_digits s) (IsAscii-from_digits (first_digits s) (own.to (first_digits s) (first_digits_all s)))
+
+not_true_false : (b : Bool) → (b ≡ true → ⊥) → b ≡ false
+not_true_false true h = absurd (h refl)
+not_true_false false h = refl
+
+-- a 0 before another digit
+pub zero_led : (s : List ℕ) → 2 ≤ length (first_digits s) → get_or (first_digits s) 0 0 ≡ 48 → readable s ≡ false
+zero_led s long zero = not_true_false (readable s) (λ h. omega (arith, (first_digits_well s (and_parts (begins_well s) (ltb (worth s) (2 ^ 64)) h).0).1 zero))
+
+pub digits_read : {X E : Type 0} (P : X → Type 0) (Q : E → Type 0) (s ds : List ℕ) (r : Result X E) → ds ≡ first_digits s → MatchResult r P (λ e. ¬ (IsUtf8 ds) × Q e) → result_ok r ≡ None → ⊥
+digits_read P Q s ds (Ok x) e h none = cc
+digits_read P Q s ds (Err x) e h none = h.0 (rw e (digits_text s))
+
+-- what `parse` makes of the digits that a text begins with
+pub number_none : {E : Type 0} (s : List ℕ) (r : Result ℕ E) → ParsesUnsigned 64 10 (first_digits s) r → result_ok r ≡ None → readable s ≡ false
+number_none {E = E} s r h none = go r (parse_digits own 64 (first_digits s) r h (first_digits_all s)) none
+  where
+    go : (r : Result ℕ E) → OkIff r ((0 < length (first_digits s)) × (worth s < 2 ^ 64)) (worth s) → result_ok r ≡ None → readable s ≡ false
+    go (Ok n) k none = cc
+    go (Err e) k none = not_true_false (readable s) (λ t. let e = and_parts (begins_well s) (ltb (worth s) (2 ^ 64)) t in k ((first_digits_well s e.0).0, ltb-true _ _ e.1))
+
+pub number_some : {E : Type 0} (s : List ℕ) (r : Result ℕ E) (n : ℕ) → ParsesUnsigned 64 10 (first_digits s) r → result_ok r ≡ Some n
+    → (get_or (first_digits s) 0 0 ≡ 48 → length (first_digits s) ≤ 1) → (readable s ≡ true) × (n ≡ worth s)
+number_some {E = E} s r n h some alone = go r (parse_digits own 64 (first_digits s) r h (first_digits_all s)) some
+  where
+    go : (r : Result ℕ E) → OkIff r ((0 < length (first_digits s)) × (worth s < 2 ^ 64)) (worth s) → result_ok r ≡ Some n → (readable s ≡ true) × (n ≡ worth s)
+    go (Ok m) k some =
+        let same : m ≡ n = cc in (
+          and_from _ _
+              (ap begins_well (sym (take-append-drop (prefix_len is_ascii_digit s) s)) ∙ well_append (first_digits s) (after_digits s) (first_digits_all s) k.0.0 (λ z. omega (arith, alone z, k.0.0)) (after_stops s))
+              (lt-ltb _ _ k.0.1),
+          sym same ∙ k.1,
+        )
+    go (Err e) k some = cc
+
 -- what `{n}` writes, and then no digit, is readable, and read as n
 pub numeral_only : (n : ℕ) (t : List ℕ) → n < 2 ^ 64 → begins_with_digit t ≡ false
-    → (readable (decimal n ++ t) ≡ true) × (worth 0 (decimal n ++ t) ≡ n) × (after_digits (decimal n ++ t) ≡ t)
+    → (readable (decimal n ++ t) ≡ true) × (worth (decimal n ++ t) ≡ n) × (after_digits (decimal n ++ t) ≡ t)
 numeral_only n t small stop =
     let ds = digits_decimal own n small in
-    let v : worth 0 (decimal n ++ t) ≡ n = worth-append 0 (decimal n) t ds stop ∙ digits_value-decimal own n small in
-    (and_from _ _ (well_append (decimal n) t ds (decimal_nonempty n small) (zero_alone n small) stop) (lt-ltb _ _ (omega (arith, v))), v, after-append (decimal n) t ds stop)
+    let split = digits_split (decimal n) t ds stop in
+    let v : worth (decimal n ++ t) ≡ n = ap (digits_value 10) split.0 ∙ digits_value-decimal own n small in
+    (and_from _ _ (well_append (decimal n) t ds (decimal_nonempty n small) (zero_alone n small) stop) (lt-ltb _ _ (omega (arith, v))), v, split.1)
 
 -- a text begins with one operand at most
 pub operand_only : (s : List ℕ) (m n : ℕ) (t u : List ℕ) → m < 2 ^ 64 → n < 2 ^ 64 → Takes s m t → Takes s n u → (m ≡ n) × (t ≡ u)
@@ -141,7 +137,7 @@ operand_only s m n t u p q h k =
     let e : decimal m ++ t ≡ decimal n ++ u = ap (drop 1) (sym h.0 ∙ k.0) in
     let a = numeral_only m t p h.1 in
     let b = numeral_only n u q k.1 in
-    (sym a.1 ∙ ap (worth 0) e ∙ b.1, sym a.2 ∙ ap after_digits e ∙ b.2)
+    (sym a.1 ∙ ap worth e ∙ b.1, sym a.2 ∙ ap after_digits e ∙ b.2)
 
 pub spaced_stops : (ns : List ℕ) → begins_with_digit (spaced ns) ≡ false
 spaced_stops [] = refl

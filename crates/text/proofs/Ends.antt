@@ -1,9 +1,12 @@
 -- Facts about lines. Assumes nothing.
-use Rattle.std.proofs.Common.{◌≡◌, ℕ, ◌+◌, ◌-◌, ◌<◌, ◌≤◌, Bool, true, false, cond, eqb, ◌⊎◌, List, [], ◌∷◌, ◌++◌, length, get_or, take, drop, sym, refl, ap, ◌∙◌, subst, inl, inr, arith}
+use Rattle.std.proofs.Common.{◌≡◌, ℕ, ◌+◌, ◌-◌, ◌<◌, ◌≤◌, Bool, true, false, Some, None, cond, eqb, ◌==◌, ◌⊎◌, List, [], ◌∷◌, ◌++◌, length, take, drop, sym, refl, ap, ◌∙◌, subst, inl, inr, arith}
 use Rattle.std.proofs.ByRecursion.{All-from_get_or}
-use Rattle.std.proofs.lemmas.List.{at_drop_all, at_drop_more, drop_all, drop_more, get_or-take, length-take-le, take-append-drop, take_rest}
-use Rattle.std.proofs.lemmas.Bool.{cond-false, cond-true, eq-eqb, eqb-true, eqb-false, ne_eqb}
-use Rattle.std.specs.List.{AllByRecursion}
+use Rattle.std.proofs.lemmas.List.{drop_more, get_or-take, length-take-le, take-append-drop, take_rest}
+use Rattle.std.proofs.lemmas.List.Quantifiers.{position-Some}
+use Rattle.std.proofs.lemmas.List.Sums.{fails_before_first, sum_by-cons}
+use Rattle.std.proofs.lemmas.Bool.{eqb-true, eqb-false, ne_eqb}
+use Rattle.std.proofs.lemmas.Bool.Decides.{nat_tests}
+use Rattle.std.specs.List.{AllByRecursion, position, position_or_len}
 use Rattle.text.specs.Lines.{before, lines_of, ended, closed, end_bytes, OneLine, FirstLine, Rejoined}
 
 lines_split : (l t : List ℕ) → OneLine l → lines_of (l ++ (10 ∷ t)) ≡ l ∷ lines_of t
@@ -27,19 +30,22 @@ lines_first s l t h some = go h.1
     go (inl e) = ap lines_of e ∙ lines_split l t h.0
     go (inr e) = ap lines_of e.0 ∙ lines_last l h.0 (subst (λ (x : List ℕ). 0 < length x) e.0 some) ∙ ap (λ x. l ∷ lines_of x) (sym e.1)
 
--- a line of n bytes, and what follows it as code cuts it off
-pub first_ended : (s : List ℕ) (n : ℕ) → n < length s → get_or s n 0 ≡ 10 → ((k : ℕ) → k < n → get_or s k 0 ≡ 10 → ⊥) → FirstLine s (take n s) (take (length s - (n + 1)) (drop (n + 1) s))
-first_ended s n lt here none =
+-- the line before the first end byte, and what follows it as code cuts it off
+pub first_ended : (s : List ℕ) (n : ℕ) → position (λ b. b == 10) s ≡ Some n → FirstLine s (take n s) (take (length s - (n + 1)) (drop (n + 1) s))
+first_ended s n found =
+    let p = position-Some (λ b. b == 10) s n 0 found in
     let within = length-take-le n s (omega arith) in
     let cut : take n s ++ drop n s ≡ take n s ++ (10 ∷ take (length s - (n + 1)) (drop (n + 1) s)) =
-    ap (λ x. take n s ++ x) (drop_more s n 0 lt ∙ ap (λ b. b ∷ drop (n + 1) s) here ∙ ap (λ x. 10 ∷ x) (sym (take_rest s (n + 1)))) in (
-      All-from_get_or (λ b. b ≡ 10 → ⊥) (take n s) 0 (λ i h e. none i (omega arith) (sym (get_or-take n s i 0 (omega arith)) ∙ e)),
+    ap (λ x. take n s ++ x) (drop_more s n 0 p.0 ∙ ap (λ b. b ∷ drop (n + 1) s) (eqb-true _ _ p.1) ∙ ap (λ x. 10 ∷ x) (sym (take_rest s (n + 1)))) in (
+      All-from_get_or (λ b. b ≡ 10 → ⊥) (take n s) 0 (λ i h e. eqb-false _ _ (p.2 i (omega arith)) (sym (get_or-take n s i 0 (omega arith)) ∙ e)),
       inl (sym (take-append-drop n s) ∙ cut),
     )
 
-pub first_only : (s : List ℕ) (n : ℕ) → n ≡ length s → ((k : ℕ) → k < n → get_or s k 0 ≡ 10 → ⊥) → FirstLine s s (take (length s - n) (drop n s))
-first_only s n e none =
-    (All-from_get_or (λ b. b ≡ 10 → ⊥) s 0 (λ i h. none i (omega arith)), inr (refl, take_rest s n ∙ drop_all n s (omega arith)))
+-- the last line, where it lacks its end byte
+pub first_only : (s : List ℕ) → position (λ b. b == 10) s ≡ None → FirstLine s s []
+first_only s none =
+    let past : length s ≤ position_or_len (λ b. b == 10) s = grind (arith, nat_tests) in
+    (All-from_get_or (λ b. b ≡ 10 → ⊥) s 0 (λ i h. eqb-false _ _ (fails_before_first (λ b. b == 10) s i 0 (omega arith))), inr (refl, refl))
 
 -- what a byte does to the lines that follow
 lines_some : (b : ℕ) (bs : List ℕ) → 0 < length (lines_of (b ∷ bs))
@@ -82,18 +88,9 @@ rejoins s = (closes s, one_lines s)
 -- an input has one line more than end bytes, at most
 pub lines_few : (s : List ℕ) → length (lines_of s) ≤ end_bytes s + 1
 lines_few [] = omega arith
-lines_few (b ∷ bs) = go (eqb b 10) (lines_of bs) (end_bytes bs) (lines_few bs)
+lines_few (b ∷ bs) = rw sum_by-cons (go (eqb b 10) (lines_of bs) (end_bytes bs) (lines_few bs))
   where
-    go : (v : Bool) (ls : List (List ℕ)) (n : ℕ) → length ls ≤ n + 1 → length (cond v ([] ∷ ls) (before b ls)) ≤ cond v (n + 1) n + 1
+    go : (v : Bool) (ls : List (List ℕ)) (n : ℕ) → length ls ≤ n + 1 → length (cond v ([] ∷ ls) (before b ls)) ≤ cond v 1 0 + n + 1
     go true ls n h = omega arith
     go false [] n h = omega arith
-    go false (l ∷ ls) n h = h
-
-pub ends_here : (s : List ℕ) (i : ℕ) → i < length s → get_or s i 0 ≡ 10 → end_bytes (drop i s) ≡ end_bytes (drop (i + 1) s) + 1
-ends_here s i lt e = at_drop_more end_bytes s i 0 lt ∙ cond-true (eqb (get_or s i 0) 10) (end_bytes (drop (i + 1) s) + 1) (end_bytes (drop (i + 1) s)) (eq-eqb (get_or s i 0) 10 e)
-
-pub ends_not : (s : List ℕ) (i : ℕ) → i < length s → (get_or s i 0 ≡ 10 → ⊥) → end_bytes (drop i s) ≡ end_bytes (drop (i + 1) s)
-ends_not s i lt e = at_drop_more end_bytes s i 0 lt ∙ cond-false (eqb (get_or s i 0) 10) (end_bytes (drop (i + 1) s) + 1) (end_bytes (drop (i + 1) s)) (ne_eqb (get_or s i 0) 10 e)
-
-pub ends_done : (s : List ℕ) (i : ℕ) → length s ≤ i → end_bytes (drop i s) ≡ 0
-ends_done s i le = at_drop_all end_bytes s i le
+    go false (l ∷ ls) n h = omega arith

@@ -1,5 +1,5 @@
 -- A line spells one instruction at most. Assumes nothing.
-use Rattle.std.proofs.Common.{◌≡◌, ℕ, ◌+◌, ◌≤◌, cond, eqb, List, ◌∷◌, length, get_or, drop, Some, None, Option, sym, refl, ap, ◌∙◌, subst, arith}
+use Rattle.std.proofs.Common.{◌≡◌, ℕ, cond, eqb, List, ◌∷◌, get_or, drop, Some, None, Option, sym, refl, ap, ◌∙◌, subst}
 use Rattle.engine.specs.declared.instructions.Instruction.{Instruction}
 use Rattle.engine.specs.declared.instructions.Instruction.TheVariants as I
 use Rattle.text.specs.Numbers.{spaced, Words}
@@ -60,41 +60,11 @@ remade (I.SetMode m) = refl
 remade I.State = refl
 remade I.Counts = refl
 
-short : (i : Instruction) → 0 + length (operands_of i) ≤ 3
-short (I.Begin k s n) = omega arith
-short (I.Resume k) = omega arith
-short (I.Retire k) = omega arith
-short (I.Alloc sof sol sor) = omega arith
-short I.Call = omega arith
-short I.Return = omega arith
-short I.Cover = omega arith
-short (I.Write r w n) = omega arith
-short (I.Copy r s) = omega arith
-short (I.Add r s q) = omega arith
-short (I.Read r) = omega arith
-short I.Rotate = omega arith
-short I.ResetRotation = omega arith
-short I.Previous = omega arith
-short (I.SetPrevious w) = omega arith
-short I.Restore = omega arith
-short I.Flush = omega arith
-short I.EarlySpill = omega arith
-short I.EarlyFill = omega arith
-short (I.Load d) = omega arith
-short I.Park = omega arith
-short (I.SetMode m) = omega arith
-short I.State = omega arith
-short I.Counts = omega arith
-
 pub apart : Apart
 apart i j p q e =
     let letters : letter_of i ≡ letter_of j = ap (λ s. get_or s 0 0) e in
     let operands : operands_of i ≡ operands_of j = spaced_same (operands_of i) (operands_of j) p q (ap (drop 1) e) in
     sym (remade i) ∙ ap (λ l. made l (operands_of i)) letters ∙ ap (made (letter_of j)) operands ∙ remade j
-
--- a line whose operands are not readable
-pub unreadable : (line d : List ℕ) (l : ℕ) → line ≡ l ∷ d → ((ns : List ℕ) → 0 + length ns ≤ 3 → Words ns → d ≡ spaced ns → ⊥) → Unreadable line
-unreadable line d l e h i p k = h (operands_of i) (short i) p (ap (drop 1) (sym e ∙ k))
 
 -- a line whose operands were read
 pub read_as : (line d ns : List ℕ) (l : ℕ) (r : Option Instruction) → line ≡ l ∷ d → d ≡ spaced ns → Words ns → InstructionOf l ns r

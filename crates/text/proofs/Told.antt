@@ -1,15 +1,13 @@
 -- What a printed line tells. Assumes nothing.
-use Rattle.std.proofs.Common.{◌≡◌, ℕ, ◌+◌, ◌*◌, ◌≤◌, List, [], ◌∷◌, ◌++◌, length, get_or, drop, decimal, refl, ap, arith, length-append}
+use Rattle.std.proofs.Common.{◌≡◌, ℕ, ◌+◌, ◌*◌, ◌≤◌, List, [], ◌∷◌, ◌++◌, length, get_or, drop, Ok, Err, decimal, refl, ap, arith, length-append}
 use Rattle.std.proofs.lemmas.Fmt.{length-decimal-le}
 use Rattle.std.proofs.lemmas.List.{append_cancel_right}
 use Rattle.context.specs.declared.refusals.Refusal.{Refusal}
 use Rattle.context.specs.declared.refusals.Refusal.TheVariants as R
 use Rattle.engine.specs.declared.instructions.Answer.{Answer}
 use Rattle.engine.specs.declared.instructions.Answer.TheVariants as A
-use Rattle.text.specs.declared.session.Outcome.{Outcome}
-use Rattle.text.specs.declared.session.Outcome.TheVariants.{Granted, Refused}
 use Rattle.text.specs.Numbers.{spaced, Words}
-use Rattle.text.specs.Outcomes.{printed, told_of, Tells, Ends, Short}
+use Rattle.text.specs.Outcomes.{LineOutcome, printed, told_of, Tells, Ends, Short}
 use Rattle.text.specs.Printed.{values_of, refusal_values, word_of, printed_end}
 use Rattle.text.proofs.Decimals.{spaced_same}
 
@@ -18,10 +16,10 @@ same_values : (ms ns : List ℕ) → Words ms → Words ns → spaced ms ++ (10 
 same_values ms ns p q e = spaced_same ms ns p q (append_cancel_right (spaced ms) (spaced ns) (10 ∷ []) e)
 
 pub tells : Tells
-tells (Granted a) (Granted b) p q e = (refl, same_values (values_of a) (values_of b) p q (ap (drop 2) e))
-tells (Granted a) (Refused f) p q e = let z : ◌≡◌ {A = ℕ} 111 110 = ap (λ s. get_or s 0 0) e in absurd (omega arith)
-tells (Refused f) (Granted a) p q e = let z : ◌≡◌ {A = ℕ} 110 111 = ap (λ s. get_or s 0 0) e in absurd (omega arith)
-tells (Refused f) (Refused g) p q e = (refl, same_values (refusal_values f.refusal) (refusal_values g.refusal) p q (ap (drop 2) e))
+tells (Ok a) (Ok b) p q e = (refl, same_values (values_of a) (values_of b) p q (ap (drop 2) e))
+tells (Ok a) (Err f) p q e = let z : ◌≡◌ {A = ℕ} 111 110 = ap (λ s. get_or s 0 0) e in absurd (omega arith)
+tells (Err f) (Ok a) p q e = let z : ◌≡◌ {A = ℕ} 110 111 = ap (λ s. get_or s 0 0) e in absurd (omega arith)
+tells (Err f) (Err g) p q e = (refl, same_values (refusal_values f.refusal) (refusal_values g.refusal) p q (ap (drop 2) e))
 
 pub ends : Ends
 ends = (
@@ -31,9 +29,9 @@ ends = (
   λ o g r e. other o g r e,
 )
   where
-    other : (o : Outcome) (g r : ℕ) → printed o ≡ printed_end g r → ⊥
-    other (Granted a) g r e = let z : ◌≡◌ {A = ℕ} 111 101 = ap (λ s. get_or s 0 0) e in omega arith
-    other (Refused f) g r e = let z : ◌≡◌ {A = ℕ} 110 101 = ap (λ s. get_or s 0 0) e in omega arith
+    other : (o : LineOutcome) (g r : ℕ) → printed o ≡ printed_end g r → ⊥
+    other (Ok a) g r e = let z : ◌≡◌ {A = ℕ} 111 101 = ap (λ s. get_or s 0 0) e in omega arith
+    other (Err f) g r e = let z : ◌≡◌ {A = ℕ} 110 101 = ap (λ s. get_or s 0 0) e in omega arith
 
 -- a number has 20 digits at most
 spaced_short : (ns : List ℕ) → Words ns → length (spaced ns) ≤ 21 * length ns
@@ -75,6 +73,6 @@ line_short ns h = omega (arith, length-append (spaced ns) (10 ∷ []), spaced_sh
 pub short : Short
 short = (λ o h. go o h, λ g r h. omega (arith, line_short (g ∷ r ∷ []) h))
   where
-    go : (o : Outcome) → Words (told_of o) → length (printed o) ≤ 112
-    go (Granted a) h = omega (arith, few_values a, line_short (values_of a) h)
-    go (Refused f) h = omega (arith, few_words f.refusal, line_short (refusal_values f.refusal) h)
+    go : (o : LineOutcome) → Words (told_of o) → length (printed o) ≤ 112
+    go (Ok a) h = omega (arith, few_values a, line_short (values_of a) h)
+    go (Err f) h = omega (arith, few_words f.refusal, line_short (refusal_values f.refusal) h)

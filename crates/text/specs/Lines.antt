@@ -1,5 +1,5 @@
 -- The lines of an input: byte 10 ends a line, and the last may lack it. Assumes nothing.
-use Rattle.std.specs.Prelude.{◌≡◌, ℕ, ◌+◌, cond, ◌⊎◌, List, [], ◌∷◌, ◌++◌, ◌==◌, ◌≢◌}
+use Rattle.std.specs.Prelude.{◌≡◌, ℕ, if◌then◌else◌, ◌⊎◌, List, [], ◌∷◌, ◌++◌, count_by, ◌==◌, ◌≢◌}
 use Rattle.std.specs.List.{AllByRecursion}
 
 -- a byte before the first line of those that follow
@@ -10,7 +10,7 @@ before b (l ∷ ls) = (b ∷ l) ∷ ls
 -- the lines, without their end bytes
 abbrev pub lines_of : List ℕ → List (List ℕ)
 lines_of [] = []
-lines_of (b ∷ bs) = cond (b == 10) ([] ∷ lines_of bs) (before b (lines_of bs))
+lines_of (b ∷ bs) = if b == 10 then [] ∷ lines_of bs else before b (lines_of bs)
 
 -- the lines, each with its end byte
 abbrev pub ended : List (List ℕ) → List ℕ
@@ -20,13 +20,12 @@ ended (l ∷ ls) = l ++ (10 ∷ ended ls)
 -- an input with the end byte that its last line may lack
 abbrev pub closed : List ℕ → List ℕ
 closed [] = []
-closed (b ∷ []) = cond (b == 10) (b ∷ []) (b ∷ 10 ∷ [])
+closed (b ∷ []) = if b == 10 then b ∷ [] else b ∷ 10 ∷ []
 closed (b ∷ c ∷ bs) = b ∷ closed (c ∷ bs)
 
 -- how many end bytes there are
 abbrev pub end_bytes : List ℕ → ℕ
-end_bytes [] = 0
-end_bytes (b ∷ bs) = cond (b == 10) (end_bytes bs + 1) (end_bytes bs)
+end_bytes s = count_by (λ b. b == 10) s
 
 -- no end byte
 abbrev pub OneLine : List ℕ → Type 0

@@ -1,13 +1,13 @@
 -- Numbers as a line writes them. Assumes nothing.
-use Rattle.std.specs.Prelude.{◌≡◌, ℕ, ◌+◌, ◌-◌, ◌*◌, ◌^◌, ◌<◌, Bool, true, false, cond, not, ◌&&◌, List, [], ◌∷◌, ◌++◌, length, take, drop, Some, None, decimal, Option, ◌==◌, ◌≢◌, nat_lt, slice_index}
+use Rattle.std.specs.Prelude.{◌≡◌, ℕ, ◌^◌, ◌<◌, Bool, true, false, not, ◌&&◌, List, [], ◌∷◌, ◌++◌, drop, Some, None, decimal, Option, ◌==◌, nat_lt}
 use Rattle.std.specs.Borrow.{Bor}
 use Rattle.std.specs.Char.{is_ascii_digit}
-use Rattle.std.specs.List.{AllByRecursion}
+use Rattle.std.specs.List.{AllByRecursion, flat_map, prefix_len, take_while}
+use Rattle.std.specs.Str.Parse.{digits_value}
 
 -- for each number a space and its decimal digits
 abbrev pub spaced : List ℕ → List ℕ
-spaced [] = []
-spaced (n ∷ ns) = 32 ∷ (decimal n ++ spaced ns)
+spaced ns = flat_map (λ n. 32 ∷ decimal n) ns
 
 -- each is below 2 ^ 64
 abbrev pub Words : List ℕ → Type 0
@@ -17,15 +17,17 @@ abbrev pub begins_with_digit : List ℕ → Bool
 begins_with_digit [] = false
 begins_with_digit (b ∷ bs) = is_ascii_digit b
 
--- what the digits that a text begins with come to, after digits that come to n
-abbrev pub worth : ℕ → List ℕ → ℕ
-worth n [] = n
-worth n (b ∷ bs) = cond (is_ascii_digit b) (worth (n * 10 + (b - 48)) bs) n
+-- the digits that a text begins with
+abbrev pub first_digits : List ℕ → List ℕ
+first_digits s = take_while is_ascii_digit s
 
--- what follows those digits
+-- what they come to
+abbrev pub worth : List ℕ → ℕ
+worth s = digits_value 10 (first_digits s)
+
+-- what follows them
 abbrev pub after_digits : List ℕ → List ℕ
-after_digits [] = []
-after_digits (b ∷ bs) = cond (is_ascii_digit b) (after_digits bs) (b ∷ bs)
+after_digits s = drop (prefix_len is_ascii_digit s) s
 
 -- a digit comes first, and no 0 before another digit
 abbrev pub begins_well : List ℕ → Bool
@@ -34,17 +36,12 @@ begins_well (b ∷ bs) = is_ascii_digit b && not (b == 48 && begins_with_digit b
 
 -- a number below 2 ^ 64 without leading zeros comes first
 abbrev pub readable : List ℕ → Bool
-readable s = begins_well s && nat_lt (worth 0 s) (2 ^ 64)
+readable s = begins_well s && nat_lt (worth s) (2 ^ 64)
 
 -- the answer is the number that s begins with and what follows it, or none
 abbrev pub NumberOf : List ℕ → Option (ℕ × Bor (List ℕ)) → Type 0
-NumberOf s (Some p) = (readable s ≡ true) × (p.0 ≡ worth 0 s) × (p.1.now ≡ after_digits s)
+NumberOf s (Some p) = (readable s ≡ true) × (p.0 ≡ worth s) × (p.1.now ≡ after_digits s)
 NumberOf s None = readable s ≡ false
-
--- the answer is what follows the space that s begins with, or s begins with none
-abbrev pub AfterSpace : List ℕ → Option (Bor (List ℕ)) → Type 0
-AfterSpace s (Some d) = (0 < length s) × (slice_index s 0 ≡ 32) × (d.now ≡ take (length s - 1) (drop 1 s))
-AfterSpace s None = 0 < length s → slice_index s 0 ≢ 32
 
 -- s is a space, the digits of n, and t, which begins with no digit
 abbrev pub Takes : List ℕ → ℕ → List ℕ → Type 0

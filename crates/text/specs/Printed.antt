@@ -1,5 +1,5 @@
 -- What is printed. Assumes nothing.
-use Rattle.std.specs.Prelude.{◌≡◌, ℕ, ◌+◌, ◌≤◌, true, cond, List, [], ◌∷◌, ◌++◌, length, is_ok, vec_items, vec_capacity, Result, Vec}
+use Rattle.std.specs.Prelude.{◌≡◌, ℕ, ◌+◌, ◌≤◌, true, if◌then◌else◌, List, [], ◌∷◌, ◌++◌, length, is_ok, vec_items, vec_capacity, Result, Vec}
 use Rattle.std.specs.declared.alloc.AllocError.{AllocError}
 use Rattle.context.specs.declared.refusals.Refusal.{Refusal}
 use Rattle.context.specs.declared.refusals.Refusal.TheVariants as R
@@ -18,7 +18,7 @@ pub record Appends {X Z : Type 0} (v w : Vec ℕ Z) (bytes : List ℕ) (r : Resu
 abbrev pub values_of : Answer → List ℕ
 values_of A.Done = []
 values_of (A.Marker word) = word ∷ []
-values_of (A.Register image nat) = image ∷ cond nat 1 0 ∷ []
+values_of (A.Register image nat) = image ∷ (if nat then 1 else 0) ∷ []
 values_of (A.Flushed bsp rnat) = bsp ∷ rnat ∷ []
 values_of (A.State state k base marker bsp) = state ∷ k ∷ base ∷ marker ∷ bsp ∷ []
 values_of (A.Counts w r) = w ∷ r ∷ []

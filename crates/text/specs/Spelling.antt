@@ -1,9 +1,8 @@
 -- The line of each instruction, without its end byte. Assumes nothing.
-use Rattle.std.specs.Prelude.{◌≡◌, ℕ, ◌+◌, ◌≤◌, List, [], ◌∷◌, ◌++◌, length, Some, None, Option, ◌≢◌}
+use Rattle.std.specs.Prelude.{◌≡◌, ℕ, ◌≤◌, List, [], ◌∷◌, length, Some, None, Option, ◌≢◌}
 use Rattle.engine.specs.declared.instructions.Instruction.{Instruction}
 use Rattle.engine.specs.declared.instructions.Instruction.TheVariants as I
-use Rattle.text.specs.declared.reading.Operands.{Operands}
-use Rattle.text.specs.declared.reading.Operands.TheVariants as O
+use Rattle.arrayvec.specs.ArrayVec.{ArrayVec}
 use Rattle.text.specs.Numbers.{spaced, Words}
 
 abbrev pub letter_of : Instruction → ℕ
@@ -66,13 +65,6 @@ spelling i = letter_of i ∷ spaced (operands_of i)
 abbrev pub Operands64 : Instruction → Type 0
 Operands64 i = Words (operands_of i)
 
--- the operands that were read
-abbrev pub listed : Operands → List ℕ
-listed O.None = []
-listed (O.One a) = a ∷ []
-listed (O.Two a b) = a ∷ b ∷ []
-listed (O.Three a b c) = a ∷ b ∷ c ∷ []
-
 -- no instruction is spelled so
 abbrev pub Unreadable : List ℕ → Type 0
 Unreadable line = (i : Instruction) → Operands64 i → line ≢ spelling i
@@ -82,10 +74,10 @@ abbrev pub InstructionOf : ℕ → List ℕ → Option Instruction → Type 0
 InstructionOf l ns (Some i) = (letter_of i ≡ l) × (operands_of i ≡ ns)
 InstructionOf l ns None = (i : Instruction) → letter_of i ≡ l → operands_of i ≢ ns
 
--- after operands already read, the text gives the rest of the answer's, or no three operands at most are written so
-abbrev pub ListedAfter : List ℕ → List ℕ → Option Operands → Type 0
-ListedAfter before text (Some o) = (spaced before ++ text ≡ spaced (listed o)) × Words (listed o)
-ListedAfter before text None = (ns : List ℕ) → length before + length ns ≤ 3 → Words ns → text ≢ spaced ns
+-- the operands that the text is written of, or no three operands at most are written so
+abbrev pub OperandsOf : List ℕ → Option (ArrayVec ℕ) → Type 0
+OperandsOf text (Some v) = (text ≡ spaced v.items) × Words v.items
+OperandsOf text None = (ns : List ℕ) → length ns ≤ 3 → Words ns → text ≢ spaced ns
 
 -- two instructions are never spelled alike
 abbrev pub Apart : Type 0

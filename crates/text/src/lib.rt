@@ -1,8 +1,6 @@
 // Sessions as text (docs/RULES.md, "Text format").
 #![tactic(auto)]
 
-ghost use Rattle.std.specs.Prelude.{ℕ, ◌+◌, ◌<◌, ◌≤◌, length};
-
 mod lines;
 mod numbers;
 mod printing;

@@ -1,63 +1,37 @@
 // Printing: `ok` and the answers, or `no` and the number of the refusal (for a shut word also the word).
-ghost use Rattle.std.specs.Prelude.{◌≡◌, ℕ, ◌+◌, ◌≤◌, [], ◌∷◌, ◌++◌, decimal};
+// No `Display` here: `write!` does not promise that a call succeeds where the vector has room.
+ghost use Rattle.std.specs.Prelude.{[], ◌∷◌, ◌++◌};
 ghost use Rattle.text.specs.Numbers.{spaced};
 ghost use Rattle.text.specs.Printed.{Appends, printed_answer, printed_refusal, printed_end};
 
 use context::Refusal;
 use engine::Answer;
-use std::alloc::{AllocError, AllocFailed};
+use std::alloc::AllocError;
 
-// Writes a byte.
-fn push_byte(out: &mut Vec<u8>, byte: u8) -> Result<(), AllocError>
-    ensures { Appends out.old out.new (byte ∷ []) result }
+// Writes bytes.
+fn push_bytes(out: &mut Vec<u8>, bytes: &[u8]) -> Result<(), AllocError>
+    ensures { Appends out.old out.new bytes.now result }
 {
-    out.push(byte)?;
-    Ok(())
-}
-
-// Writes a word.
-fn push_word(out: &mut Vec<u8>, word: &[u8]) -> Result<(), AllocError>
-    ensures { Appends out.old out.new word.now result }
-{
-    out.extend_from_slice(word)
-}
-
-// Writes a number in decimal.
-fn push_number(out: &mut Vec<u8>, n: u64) -> Result<(), AllocError>
-    ensures { Appends out.old out.new (decimal n) result }
-{
-    if n < 10 {
-        return push_byte(out, b'0' + n as u8);
-    }
-    push_number(out, n / 10)?;
-    push_byte(out, b'0' + (n % 10) as u8)
+    out.extend_from_slice(bytes)
 }
 
 // Writes a space and a number.
 fn push_value(out: &mut Vec<u8>, n: u64) -> Result<(), AllocError>
     ensures { Appends out.old out.new (spaced (n ∷ [])) result }
 {
-    push_byte(out, b' ')?;
-    push_number(out, n)
-}
-
-// Writes values one after another.
-fn push_values(out: &mut Vec<u8>, values: &[u64]) -> Result<(), AllocError>
-    ensures { Appends out.old out.new (spaced values.now) result }
-{
-    for v in values {
-        push_value(out, *v)?;
-    }
-    Ok(())
+    push_bytes(out, b" ")?;
+    push_bytes(out, itoa::Buffer::new().format(n).as_bytes())
 }
 
 // Writes a line: a word, values and the end byte.
 fn push_line(out: &mut Vec<u8>, word: &[u8], values: &[u64]) -> Result<(), AllocError>
     ensures { Appends out.old out.new (word.now ++ (spaced values.now ++ (10 ∷ []))) result }
 {
-    push_word(out, word)?;
-    push_values(out, values)?;
-    push_byte(out, b'\n')
+    push_bytes(out, word)?;
+    for v in values {
+        push_value(out, *v)?;
+    }
+    push_bytes(out, b"\n")
 }
 
 // Prints an answer.

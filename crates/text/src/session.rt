@@ -1,109 +1,80 @@
 // Sessions: bytes in, bytes out.
-ghost use Rattle.std.specs.Prelude.{◌≡◌, ℕ, ◌+◌, ◌<◌, ◌≤◌, ◌++◌, length, IfOk, if◌then◌else◌, Ok, Err, OnOk};
-ghost use Rattle.text.specs.Outcomes.{fault_at, outcome_of, printed, is_granted, Tells, Ends, Short};
+ghost use Rattle.std.specs.Prelude.{◌≡◌, ◌+◌, ◌≤◌, ◌++◌, length, IfOk, IfErr, OnOk};
+ghost use Rattle.text.specs.declared.session.SessionError.TheVariants.{Memory, Refused};
+ghost use Rattle.text.specs.Outcomes.{printed, Tells, Ends, Short};
 ghost use Rattle.text.specs.Printed.{Appends};
 ghost use Rattle.engine.specs.Hosts.{hosted};
-ghost use Rattle.engine.specs.Steps.{step_answer, step_after};
 ghost use Rattle.text.specs.Lines.{end_bytes, lines_of};
-ghost use Rattle.text.specs.Sessions.{on_line, numbered, LineRuns, Runs, SessionRuns, SessionPrints, printed_all};
+ghost use Rattle.text.specs.Sessions.{LineRuns, Runs, SessionRuns, SessionPrints, IsLawfulHost, NotRun, printed_all};
 
 use super::lines::first_line;
 use super::printing::{push_answer, push_end, push_refusal};
 use super::reading::read_line;
 use context::Refusal;
-use engine::{Answer, Engine, Instruction};
+use engine::{Answer, Engine};
 use register::{Kind, Slot};
 use std::alloc::{AllocError, Global};
 use store::Store;
+use thiserror::Error;
 
 // The longest answer is five numbers; with its word, its spaces and its end byte it has fewer bytes.
 const LONGEST_ANSWER: usize = 112;
 
 // A refusal, with the number of its line from 1. A refusal for a shut word holds the fault of the move, and that the
 // fault of the store.
-#[derive(Clone, Copy)]
+#[derive(Clone, Copy, Debug, PartialEq, Eq, Error)]
+#[error("line {line} is refused ({})", .refusal.number())]
 pub struct RunFault {
     pub refusal: Refusal,
     pub line: u64,
 }
 
-#[derive(Clone, Copy)]
-pub enum Outcome {
-    Granted(Answer),
-    Refused(RunFault),
-}
+// What a line comes to.
+pub type Outcome = Result<Answer, RunFault>;
 
 // Why a session is not run: there is no memory for its answers, or the host's register count or store is not lawful.
-#[derive(Clone, Copy)]
+#[derive(Clone, Copy, Debug, PartialEq, Eq, Error)]
 pub enum SessionError {
+    #[error("no memory for the answers")]
     Memory,
+    #[error("the host is refused ({})", .0.number())]
     Refused(Refusal),
 }
 
+// Both by hand, so that a clause knows the error that `?` makes.
 impl From<AllocError> for SessionError {
+    ghost from_gives = { λ _ e. e ≡ Memory };
+
     fn from(_error: AllocError) -> SessionError {
         SessionError::Memory
     }
 }
 
 impl From<Refusal> for SessionError {
+    ghost from_gives = { λ refusal e. e ≡ Refused refusal };
+
     fn from(refusal: Refusal) -> SessionError {
         SessionError::Refused(refusal)
     }
 }
 
-// Adds the line's number to a refusal.
-fn on_line<T>(res: Result<T, Refusal>, line: u64) -> Result<T, RunFault>
-    ensures { result ≡ on_line res line }
-{
-    match res {
-        Ok(v) => Ok(v),
-        Err(refusal) => Err(RunFault { refusal, line }),
-    }
-}
-
-// An instruction of a session, its refusal with the line's number.
-fn execute<K: Kind, S: Store>(
-    engine: &mut Engine,
-    slots: &mut [Slot<K>],
-    store: &mut S,
-    instruction: Instruction,
-    line: u64,
-) -> Result<Answer, RunFault>
-    ensures answer { result ≡ numbered (step_answer K.zero_content K.image_of K.content_of
-        (hosted engine.old.machine slots.old (S.meaning store.old)) instruction) line }
-    ensures after { (hosted engine.new.machine slots.new (S.meaning store.new))
-        ≡ step_after K.zero_content K.image_of K.content_of K.sum_of
-        (hosted engine.old.machine slots.old (S.meaning store.old)) instruction }
-{
-    on_line(engine.step(slots, store, instruction), line)
-}
-
-// One line, given without its end byte.
+// One line, given without its end byte. Here and below the slots and the store are two parameters, since no struct holds
+// the lent slots.
 pub fn execute_line<K: Kind, S: Store>(
     engine: &mut Engine,
     slots: &mut [Slot<K>],
     store: &mut S,
     text: &[u8],
     line: u64,
-) -> Result<Answer, RunFault>
+) -> Outcome
     ensures { LineRuns K.zero_content K.image_of K.content_of K.sum_of
         (hosted engine.old.machine slots.old (S.meaning store.old))
         text.now line result (hosted engine.new.machine slots.new (S.meaning store.new)) }
 {
-    let instruction = on_line(read_line(text).ok_or(Refusal::Unreadable), line)?;
-    let answer = execute(engine, slots, store, instruction, line)?;
+    let on_line = |refusal| RunFault { refusal, line };
+    let instruction = read_line(text).ok_or(Refusal::Unreadable).map_err(on_line)?;
+    let answer = engine.step(slots, store, instruction).map_err(on_line)?;
     Ok(answer)
-}
-
-// The outcome that a line's result is.
-fn outcome_of(res: Result<Answer, RunFault>) -> Outcome
-    ensures { result ≡ outcome_of res }
-{
-    match res {
-        Ok(answer) => Outcome::Granted(answer),
-        Err(fault) => Outcome::Refused(fault),
-    }
 }
 
 // Executes the lines of the input, one after another: an outcome for each.
@@ -119,30 +90,25 @@ fn execute_lines<K: Kind, S: Store>(
         (hosted engine.new.machine slots.new (S.meaning store.new))) }
 {
     let mut outcomes = Vec::with_capacity(heap, lines_at_most(input))?;
+    // A loop by hand: over `split_inclusive` the check refuses the module that it makes for a `for` in a generic function.
     let mut number: u64 = 0;
     let mut rest = input;
     while !rest.is_empty() {
         let (line, after) = first_line(rest);
         number += 1;
-        let result = execute_line(engine, slots, store, line, number);
-        outcomes.push(outcome_of(result))?;
+        outcomes.push(execute_line(engine, slots, store, line, number))?;
         rest = after;
     }
     Ok(outcomes)
 }
 
 // How many lines an input has at most.
+#[tactic(auto, using(crate::proofs::Ends::lines_few))]
 fn lines_at_most(input: &[u8]) -> usize
     ensures ends { result ≡ end_bytes input.now + 1 }
     ensures lines { length (lines_of input.now) ≤ result }
 {
-    let mut n: usize = 0;
-    for b in input {
-        if *b == b'\n' {
-            n = n.saturating_add(1);
-        }
-    }
-    n.saturating_add(1)
+    input.iter().filter(|b| **b == b'\n').count() + 1
 }
 
 // Prints an outcome.
@@ -150,8 +116,8 @@ pub fn push_outcome(out: &mut Vec<u8>, outcome: Outcome) -> Result<(), AllocErro
     ensures { Appends out.old out.new (printed outcome) result }
 {
     match outcome {
-        Outcome::Granted(answer) => push_answer(out, answer),
-        Outcome::Refused(fault) => push_refusal(out, fault.refusal),
+        Ok(answer) => push_answer(out, answer),
+        Err(fault) => push_refusal(out, fault.refusal),
     }
 }
 
@@ -171,29 +137,11 @@ pub fn print_line(heap: Global, outcome: Outcome) -> Result<Vec<u8>, AllocError>
 pub fn print_session(out: &mut Vec<u8>, outcomes: &[Outcome]) -> Result<(), AllocError>
     ensures { OnOk result (out.new.items ≡ out.old.items ++ printed_all outcomes.now) }
 {
-    let mut granted: u64 = 0;
-    let mut refused: u64 = 0;
     for outcome in outcomes {
         push_outcome(out, *outcome)?;
-        granted += count(is_granted(*outcome));
-        refused += count(!is_granted(*outcome));
     }
-    push_end(out, granted, refused)
-}
-
-fn is_granted(outcome: Outcome) -> bool
-    ensures { result ≡ is_granted outcome }
-{
-    match outcome {
-        Outcome::Granted(_) => true,
-        Outcome::Refused(_) => false,
-    }
-}
-
-fn count(yes: bool) -> u64
-    ensures { result ≡ (if yes then 1 else 0) }
-{
-    u64::from(yes)
+    let granted = outcomes.iter().filter(|o| o.is_ok()).count();
+    push_end(out, granted as u64, (outcomes.len() - granted) as u64)
 }
 
 // Runs the lines of the input on a new engine, and gives the outcome of each, with faults.
@@ -203,8 +151,10 @@ pub fn run_outcomes<K: Kind, S: Store>(
     store: &mut S,
     input: &[u8],
 ) -> Result<Vec<Outcome>, SessionError>
-    ensures { IfOk result (λ v. SessionRuns K.zero_content K.image_of K.content_of K.sum_of
+    ensures ran { IfOk result (λ v. SessionRuns K.zero_content K.image_of K.content_of K.sum_of
         slots.old (S.meaning store.old) input.now v.items slots.new (S.meaning store.new)) }
+    ensures lawful { OnOk result (IsLawfulHost slots.old (S.meaning store.old)) }
+    ensures not_run { IfErr result (NotRun slots.old (S.meaning store.old)) }
 {
     let mut engine = Engine::new(slots.len() as u64, store.len())?;
     let outcomes = execute_lines(heap, &mut engine, slots, store, input)?;
@@ -218,8 +168,10 @@ pub fn run_session<K: Kind, S: Store>(
     store: &mut S,
     input: &[u8],
 ) -> Result<Vec<u8>, SessionError>
-    ensures { IfOk result (λ v. SessionPrints K.zero_content K.image_of K.content_of K.sum_of
+    ensures ran { IfOk result (λ v. SessionPrints K.zero_content K.image_of K.content_of K.sum_of
         slots.old (S.meaning store.old) input.now v.items slots.new (S.meaning store.new)) }
+    ensures lawful { OnOk result (IsLawfulHost slots.old (S.meaning store.old)) }
+    ensures not_run { IfErr result (NotRun slots.old (S.meaning store.old)) }
 {
     let room = lines_at_most(input)
         .saturating_add(1)

@@ -1,15 +1,17 @@
-use Rattle.std.proofs.Common.{◌∷◌, length, sym, ap, ◌∙◌}
+use Rattle.std.proofs.Common.{length, ap, ◌∙◌, ◌∷◌, arith, rules, ltb-true, ltb-false}
 use Rattle.std.proofs.lemmas.Slice.{first_rest}
 use Rattle.std.specs.List.{between}
 use Rattle.text.proofs.Operands.{no_operand, operand_is}
 use Rattle.text.proofs.reading.operand.Goals as goal
+use Rattle.text.proofs.reading.operand.Goals.{in_default-via-then-text-lt1, in_default-via-else-text-lt1+in_default-1}
 
-pub returns-in_err-digits : goal.returns-in_err-digits
-returns-in_err-digits c = rw c.from_residual.ensures (no_operand c.args.text.now c.in_err-digits.ensures)
+pub returns-in_default : goal.returns-in_default
+returns-in_default c = no_operand c.args.text.now (elim c.in_default.branch [
+  | in_default-via-then-text-lt1 w ↦ λ some space. omega (arith, ltb-true)
+  | in_default-via-else-text-lt1+in_default-1 w ↦ λ some space. omega (arith, ltb-true, ltb-false)
+])
 
-pub returns : goal.returns
-returns c =
+pub returns-in-32 : goal.returns-in-32
+returns-in-32 c =
     let s = c.args.text.now in
-    let h = c.in_ok-digits.ensures in
-    let d = c.in_ok-digits.digits.now in
-    operand_is s d c.number.result (first_rest s 0 h.0 ∙ ap (λ b. b ∷ between 1 (length s) s) h.1 ∙ ap (λ t. 32 ∷ t) (sym h.2)) c.number.ensures
+    operand_is s (between 1 (length s) s) c.number.result (first_rest s 0 (search rules) ∙ ap (λ b. b ∷ between 1 (length s) s) (search rules)) c.number.ensures

@@ -1,15 +1,12 @@
-use Rattle.std.proofs.Common.{[], rules}
-use Rattle.text.proofs.Operands.{listed_end, listed_step, listed_stop}
+use Rattle.std.proofs.Common.{◌≡◌, [], ◌∷◌, ◌++◌, rules, arith}
+use Rattle.std.proofs.lemmas.Grind.{common_steps}
+use Rattle.text.proofs.Operands.{read_more, read_stop}
 use Rattle.text.proofs.reading.read_operands.Goals as goal
 
-pub returns-then-is_empty : goal.returns-then-is_empty
-returns-then-is_empty c = listed_end [] c.args.text.now (search rules) (search rules)
+pub returns-in_err-n : goal.returns-in_err-n
+returns-in_err-n c = rw c.from_residual.ensures (λ ns few all e. read_stop c.loop-rest.invariant (search rules) c.in_err-n.ensures ns all e)
 
-pub returns-in_err-a : goal.returns-in_err-a
-returns-in_err-a c = rw c.from_residual.ensures (listed_stop [] c.args.text.now (search rules) c.in_err-a.ensures)
-
-pub returns : goal.returns
-returns c =
-    let text = c.args.text.now in
-    let rest = c.in_ok-a.rest.now in
-    listed_step [] text rest c.in_ok-a.a c.after_one.result (search rules) c.in_ok-a.ensures c.after_one.ensures
+pub loop-rest-preserved : goal.loop-rest-preserved
+loop-rest-preserved c =
+    let pushed : c.try_push.new.self.items ≡ c.loop-rest.operands.items ++ (c.in_ok-n.n ∷ []) = grind (arith, common_steps) in
+    rw pushed (read_more c.loop-rest.invariant (search rules) c.in_ok-n.ensures)
