@@ -49,7 +49,7 @@ pub fn push_answer(out: &mut Vec<u8>, answer: Answer) -> Result<(), AllocError>
             base,
             marker,
             bsp,
-        } => push_line(out, b"ok", &[state, context, base, marker, bsp]),
+        } => push_line(out, b"ok", &[u64::from(state), context, base, marker, bsp]),
         Answer::Counts { written, read } => push_line(out, b"ok", &[written, read]),
     }
 }
