@@ -12,6 +12,7 @@ fn split_digits(text: &[u8]) -> (&[u8], &[u8])
 }
 
 // A decimal number below 2^64 without leading zeros, and what follows it.
+#[tactic(auto, using(crate::proofs::Decimals::number_none, crate::proofs::Decimals::zero_led))]
 pub(crate) fn number(text: &[u8]) -> Option<(u64, &[u8])>
     ensures { NumberOf text.now result }
 {

@@ -1,7 +1,7 @@
 // Sessions: bytes in, bytes out.
 ghost use Rattle.std.specs.Prelude.{◌≡◌, ◌+◌, ◌≤◌, ◌++◌, length, IfOk, IfErr, OnOk};
 ghost use Rattle.text.specs.declared.session.SessionError.TheVariants.{Memory, Refused};
-ghost use Rattle.text.specs.Outcomes.{printed, Tells, Ends, Short};
+ghost use Rattle.text.specs.Outcomes.{fault_at, printed, Tells, Ends, Short};
 ghost use Rattle.text.specs.Printed.{Appends};
 ghost use Rattle.engine.specs.Hosts.{hosted};
 ghost use Rattle.text.specs.Lines.{end_bytes, lines_of};
@@ -71,7 +71,9 @@ pub fn execute_line<K: Kind, S: Store>(
         (hosted engine.old.machine slots.old (S.meaning store.old))
         text.now line result (hosted engine.new.machine slots.new (S.meaning store.new)) }
 {
-    let on_line = |refusal| RunFault { refusal, line };
+    let on_line = |refusal| -> RunFault
+        ensures { result ≡ fault_at refusal line }
+    { RunFault { refusal, line } };
     let instruction = read_line(text).ok_or(Refusal::Unreadable).map_err(on_line)?;
     let answer = engine.step(slots, store, instruction).map_err(on_line)?;
     Ok(answer)

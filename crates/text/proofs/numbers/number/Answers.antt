@@ -1,7 +1,7 @@
 use Rattle.std.proofs.Common.{◌≡◌, ◌≤◌, length, get_or, sym, ◌∙◌, None, rules, arith, ltb-true, ltb-false}
 use Rattle.std.specs.Result.{result_ok}
 use Rattle.text.specs.Numbers.{first_digits}
-use Rattle.text.proofs.Decimals.{digits_read, zero_led, number_none, number_some}
+use Rattle.text.proofs.Decimals.{digits_read, number_some}
 use Rattle.text.proofs.numbers.number.Goals as goal
 use Rattle.text.proofs.numbers.number.Goals.{in_default-via-then-digits-lt2, in_default-via-else-digits-lt2+in_default-1}
 
@@ -9,16 +9,6 @@ pub returns-in_err-ok : goal.returns-in_err-ok
 returns-in_err-ok c =
     let none : result_ok c.from_utf8.result ≡ None = search rules in
     absurd (digits_read _ _ c.args.text.now c.split_digits.result.0.now c.from_utf8.result c.split_digits.ensures.digits c.from_utf8.ensures.cases none)
-
-pub returns-in_err-n : goal.returns-in_err-n
-returns-in_err-n c =
-    let same : c.in_ok-ok.field-0.now ≡ first_digits c.args.text.now = search rules in
-    rw c.from_residual-in_err-n.ensures (number_none c.args.text.now c.parse.result (rw same at c.parse.ensures.value.0) (sym c.ok-2.ensures.value ∙ c.in_err-n.was))
-
-pub returns-in-48 : goal.returns-in-48
-returns-in-48 c =
-    let zero : get_or c.split_digits.result.0.now 0 0 ≡ 48 = search rules in
-    zero_led c.args.text.now (rw c.split_digits.ensures.digits at c.in-48.len_at_least) (rw c.split_digits.ensures.digits at zero)
 
 pub returns-in_default : goal.returns-in_default
 returns-in_default c =
