@@ -1,5 +1,6 @@
 -- Which moves bring a frame into the file.
-use Rattle.std.proofs.Common.{◌≡◌, ℕ, ◌<◌, ◌≤◌, min, Bool, true, false, cond, ltb, Ok, Err, refl, le-ltb, lt-ltb}
+use Rattle.std.proofs.lemmas.Bool.{cond_both}
+use Rattle.std.proofs.Common.{◌≡◌, ℕ, ◌<◌, ◌≤◌, min, cond, ltb, Ok, Err, refl, le-ltb, lt-ltb}
 use Rattle.address.specs.Addresses.{address_of}
 use Rattle.moves.specs.Steps.{MoveResult}
 use Rattle.context.specs.Records.{stored_of}
@@ -33,10 +34,6 @@ module _ {C : Type 0} (nought : C) (image : C → ℕ) (content : ℕ → C) (s 
       let f = lt-ltb base (stored_of s.stack) k in
       rw (e, f) refl
 
-by_cond : {C : Type 0} (b : Bool) (x y : Scene C) (n : ℕ) → x.stack.size ≡ n → y.stack.size ≡ n → (cond b x y).stack.size ≡ n
-by_cond true x y n h k = h
-by_cond false x y n h k = k
-
 by_move : {C : Type 0} (r : MoveResult) (x y : Scene C) (n : ℕ) → x.stack.size ≡ n → y.stack.size ≡ n → (if_moved r x y).stack.size ≡ n
 by_move (Ok v) x y n h k = h
 by_move (Err e) x y n h k = k
@@ -60,6 +57,7 @@ module _ {C : Type 0} (nought : C) (image : C → ℕ) (content : ℕ → C) (s 
   unfolding frame_after
   frame_size base top =
       let refills = refill_after content s base (min s.stack.lo top) (address_of s.stack.start base) in
-      by_cond (ltb (stored_of s.stack) (floor_of s top)) (room_after nought image s (floor_of s top)) (cond (ltb base (stored_of s.stack)) refills s) s.stack.size
-      (room-size (floor_of s top))
-      (by_cond (ltb base (stored_of s.stack)) refills s s.stack.size (refill-size base (min s.stack.lo top) (address_of s.stack.start base)) refl)
+      cond_both (ltb (stored_of s.stack) (floor_of s top)) (room_after nought image s (floor_of s top)) (cond (ltb base (stored_of s.stack)) refills s)
+      (λ x. x.stack.size ≡ s.stack.size)
+      (λ _. room-size (floor_of s top))
+      (λ _. cond_both (ltb base (stored_of s.stack)) refills s (λ x. x.stack.size ≡ s.stack.size) (λ _. refill-size base (min s.stack.lo top) (address_of s.stack.start base)) (λ _. refl))

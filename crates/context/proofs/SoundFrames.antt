@@ -1,6 +1,6 @@
 -- A record stays sound where a context begins, its frame changes, and it parks and resumes.
-use Rattle.std.proofs.Common.{◌≡◌, ℕ, ◌+◌, ◌%◌, ◌^◌, ◌<◌, ◌≤◌, Bool, true, false, cond, ◌&&◌, eqb, ltb, leb, sym, refl, ap, ◌∙◌, subst, arith}
-use Rattle.std.proofs.lemmas.Bool.{and_parts, leb-true, eqb-true}
+use Rattle.std.proofs.Common.{◌≡◌, ℕ, ◌+◌, ◌%◌, ◌^◌, ◌<◌, ◌≤◌, Bool, true, ◌&&◌, eqb, ltb, leb, sym, refl, ap, ◌∙◌, subst, arith}
+use Rattle.std.proofs.lemmas.Bool.{and_parts, leb-true, eqb-true, cond_both}
 use Rattle.address.specs.Addresses.{address_of, positions_below}
 use Rattle.address.proofs.Addresses.{address_monotone, positions_address}
 use Rattle.frame.specs.Markers.{sof_of, sol_of, sor_of, rotation_of, lawful_word, turned_once}
@@ -75,19 +75,11 @@ rotated_sound n r h =
 pub reset_sound : (n : ℕ) (r : ContextRecord) → Sound n r → Sound n (reset_frame r)
 reset_sound n r h = refit n r (reset_frame r) h refl refl refl refl refl (omega arith) (ap (λ x. r.base + x) (same_size r.marker 0))
 
-by_cond : (n : ℕ) (b : Bool) (r s : ContextRecord) → Sound n r → Sound n s → Sound n (cond b r s)
-by_cond n true r s h k = h
-by_cond n false r s h k = k
-
 pub previous_sound : (n w : ℕ) (r : ContextRecord) → Sound n r → Sound n (previous_set r w)
-previous_sound n w r h = by_cond n (lawful_word w) _ r (refit n r _ h refl refl refl refl refl (omega arith) refl) h
-
-same_status : (b : Bool) (r s : ContextRecord) → s.status ≡ r.status → (cond b s r).status ≡ r.status
-same_status true r s h = h
-same_status false r s h = refl
+previous_sound n w r h = cond_both (lawful_word w) _ r (Sound n) (λ _. refit n r _ h refl refl refl refl refl (omega arith) refl) (λ _. h)
 
 pub previous_status : (w : ℕ) (r : ContextRecord) → (previous_set r w).status ≡ r.status
-previous_status w r = same_status (lawful_word w) r _ refl
+previous_status w r = cond_both (lawful_word w) _ r (λ s. s.status ≡ r.status) (λ _. refl) (λ _. refl)
 
 -- where all below base is stored, the file may hold nothing below base
 pub parked_sound : (n : ℕ) (r : ContextRecord) → 96 ≤ n → lawful_word r.marker ≡ true → Stored r → Sound n r → Sound n (parked r)

@@ -45,7 +45,7 @@ pub enum Refusal {
 }
 
 impl Refusal {
-    // The number by which a refusal is told.
+    // The number by which a refusal is told. A match and no cast, since `Shut` holds a fault.
     pub fn number(&self) -> u64
         ensures { result ≡ refusal_number self.now }
     {

@@ -107,7 +107,8 @@ impl Context {
         Ok(())
     }
 
-    // Alloc: the frame gets another size; answers the previous marker's word.
+    // Alloc: the frame gets another size; answers the previous marker's word. Its operands stay three numbers, as a line has
+    // them: a struct would be made and taken apart for one call.
     pub fn alloc<K: Kind, S: Store>(
         &mut self,
         slots: &mut [Slot<K>],

@@ -5,6 +5,7 @@ ghost use Rattle.engine.specs.Running.{shown_as};
 use super::machine::State;
 use register::{Kind, Slot};
 
+// Operands are numbers as a line has them, the NaT bit and the mode too: their range is asked in one place.
 #[derive(Clone, Copy, Debug, PartialEq, Eq)]
 pub enum Instruction {
     Begin { context: u64, start: u64, size: u64 },

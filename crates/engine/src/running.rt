@@ -21,6 +21,9 @@ use context::{Context, Refusal};
 use register::{Kind, Slot};
 use store::Store;
 
+// These move registers, so none is passed to `change`: it would have to take the file and the store as well, and three borrowed
+// parameters are no plainer than taking the context out and putting it back. What they require of the state and of the
+// file's length `execute` asks once: a type that says it would hold the lent slots.
 impl Engine {
     // At a shut word the spills before it stand.
     pub(crate) fn alloc<K: Kind, S: Store>(
@@ -140,7 +143,7 @@ impl Engine {
         Ok(Answer::Flushed { bsp, rnat })
     }
 
-    // Where the mode allows it.
+    // Where the mode allows it. The early spill and the early fill stay two: one writes the store, and one reads it.
     pub(crate) fn early_spill<K: Kind, S: Store>(
         &mut self,
         slots: &[Slot<K>],

@@ -55,7 +55,7 @@ impl Engine {
         self.entry(self.machine.current)
     }
 
-    // Puts a context into the entry `k`; no other entry changes.
+    // Puts a context into the entry `k`; no other entry changes. Not by `drive`: what is driven stays.
     fn replace(&mut self, k: usize, context: Context)
         requires entry { k < 8 }
         requires fits { Fits self.old.machine context.stack }

@@ -1,4 +1,6 @@
 // Moves of registers between the file and the backing store (docs/RULES.md, "Moves"), for every store and every kind.
+// The file and the store stay two parameters, since no struct may hold the lent slots; so do the bounds of a run, since a
+// `Range` is moved and a caller asks about a run before it makes it.
 #![tactic(auto)]
 
 ghost use Rattle.std.specs.Prelude.{◌≡◌};

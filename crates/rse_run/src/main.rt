@@ -29,10 +29,7 @@ fn run(rt: &HostRuntime, memory: &mut [u64]) -> anyhow::Result<()> {
     // Page p lies in frame 63 − p.
     let frames: [u64; 64] = array::from_fn(|page| 63 - page as u64);
     let mut store = PagedStore::new(rt.alloc(), memory, &frames)?;
-    let mut slots = [Slot {
-        content: Word { value: 0 },
-        nat: false,
-    }; 96];
+    let mut slots = [Slot::<Word>::cleared(); 96];
     let printed = run_session(rt.alloc(), &mut slots, &mut store, session)?;
     rt.stdout().write_all(&printed)?;
     Ok(())

@@ -81,19 +81,13 @@ fn at_every_alignment<K: Kind>(rt: &impl Abort, slots: &mut [Slot<K>]) {
 
 #[test]
 fn words_at_every_alignment(rt: HostRuntime) {
-    let mut slots = [Slot {
-        content: Word::zero(),
-        nat: false,
-    }; 128];
+    let mut slots = [Slot::<Word>::cleared(); 128];
     at_every_alignment(&rt, &mut slots);
 }
 
 #[test]
 fn pairs_at_every_alignment(rt: HostRuntime) {
-    let mut slots = [Slot {
-        content: Pair::zero(),
-        nat: false,
-    }; 128];
+    let mut slots = [Slot::<Pair>::cleared(); 128];
     at_every_alignment(&rt, &mut slots);
 }
 
