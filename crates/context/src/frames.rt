@@ -13,7 +13,7 @@ use frame::FrameMarker;
 use register::{Kind, Slot, put_register, register_at};
 
 impl Context {
-    // The marker of the frame.
+    // The marker of the frame. The three markers are three questions: one with a parameter would need a type that names them.
     pub fn marker(&self) -> FrameMarker
         ensures word { word_of result ≡ self.now.stack.marker }
         ensures parts { PartsOfWord result self.now.stack.marker }

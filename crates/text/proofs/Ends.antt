@@ -47,6 +47,9 @@ first_only s none =
     let past : length s ≤ position_or_len (λ b. b == 10) s = grind (arith, nat_tests) in
     (All-from_get_or (λ b. b ≡ 10 → ⊥) s 0 (λ i h. eqb-false _ _ (fails_before_first (λ b. b == 10) s i 0 (omega arith))), inr (refl, refl))
 
+pub lines_only : (s : List ℕ) → position (λ b. b == 10) s ≡ None → 0 < length s → lines_of s ≡ s ∷ lines_of []
+lines_only s none some = lines_first s s [] (first_only s none) some
+
 -- what a byte does to the lines that follow
 lines_some : (b : ℕ) (bs : List ℕ) → 0 < length (lines_of (b ∷ bs))
 lines_some b bs = go (eqb b 10) (lines_of bs)
