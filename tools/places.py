@@ -91,7 +91,7 @@ def repeats():
         for clause in re.findall(r"(?:requires|ensures) *\w* *\{(.*?)\}\s*(?=requires|ensures|$)", head, re.S):
             for fact in re.split(r"\) × \(|→", clause):
                 fact = re.sub(r"\s+", " ", fact).strip(" ()")
-                if "result" not in fact and len(fact) > 12:
+                if "result" not in fact and len(fact) > 4:
                     facts[fact].append(f)
         names = re.findall(r"(\w+): (&mut |&)?([\w\[<>\]]+)", head.split("->")[0].split("ensures")[0].split("requires")[0])
         typed = sorted({f"{a}: {b}{c}" for a, b, c in names if a != "rt" and not a[0].isupper()})

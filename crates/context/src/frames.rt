@@ -65,7 +65,7 @@ impl Context {
         self.stack.marker = 0;
     }
 
-    // Rotates the rotating registers by one.
+    // Rotates the rotating registers by one. This and the next stay two: a function that is passed the change is no shorter.
     pub fn rotate(&mut self)
         ensures { StackAlone rotated_frame self.old self.new }
     {

@@ -1,4 +1,5 @@
 // What each instruction does to one context: the part that the table engine and a directly driven context share.
+// The file and the store stay two parameters, since no struct may hold the lent slots.
 #![tactic(auto)]
 
 ghost use Rattle.std.specs.Prelude.{◌≡◌, true, false, MatchOption};
@@ -76,13 +77,7 @@ impl Context {
     pub fn cursor(&self) -> Cursor
         ensures { result ≡ cursor_of self.now.number self.now.stack self.now.counts }
     {
-        Cursor {
-            context: self.number,
-            start: self.stack.start,
-            bspstore: self.stack.bspstore,
-            rnat: self.stack.rnat,
-            counts: self.counts,
-        }
+        self.stack.cursor(self.number, self.counts)
     }
 }
 

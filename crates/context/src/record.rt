@@ -1,8 +1,9 @@
 // One context by its numbers (docs/RULES.md, "Contexts").
 ghost use Rattle.std.specs.Prelude.{◌≡◌};
-ghost use Rattle.context.specs.Records.{bsp_of, stored_of};
+ghost use Rattle.context.specs.Records.{bsp_of, stored_of, cursor_of};
 
 use address::{address_of, positions_below};
+use moves::{Counts, Cursor};
 
 #[derive(Clone, Copy, Debug, PartialEq, Eq)]
 pub enum Status {
@@ -33,6 +34,19 @@ impl ContextRecord {
         ensures { result ≡ bsp_of self.now }
     {
         address_of(self.start, self.base)
+    }
+
+    // Where the moves stand of the context of this number.
+    pub fn cursor(&self, context: u64, counts: Counts) -> Cursor
+        ensures { result ≡ cursor_of context self.now counts }
+    {
+        Cursor {
+            context,
+            start: self.start,
+            bspstore: self.bspstore,
+            rnat: self.rnat,
+            counts,
+        }
     }
 
     // The next position to be stored: all below it are in the backing store.

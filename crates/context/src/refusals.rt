@@ -45,7 +45,7 @@ pub enum Refusal {
 }
 
 impl Refusal {
-    // The number by which a refusal is told. A match and no cast, since `Shut` holds a fault.
+    // The number by which a refusal is told. No `From`: the number does not hold the fault of a shut word.
     pub fn number(&self) -> u64
         ensures { result ≡ refusal_number self.now }
     {
@@ -71,6 +71,7 @@ impl Refusal {
     }
 }
 
+// Both by hand, so that a clause knows the refusal that `?` makes.
 impl From<MoveFault> for Refusal {
     ghost from_gives = { λ fault r. r ≡ Shut fault };
 

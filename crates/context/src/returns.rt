@@ -154,7 +154,8 @@ impl Context {
         Ok(base - marker.sol())
     }
 
-    // Return: the previous marker is the marker again, and base falls by its locals.
+    // Return: the previous marker is the marker again, and base falls by its locals. It shares `go_back` with restore: the base
+    // and the marker are all that differs.
     pub fn return_to_caller<K: Kind, S: Store>(
         &mut self,
         slots: &mut [Slot<K>],

@@ -3,6 +3,7 @@ ghost use Rattle.std.specs.Prelude.{◌≡◌};
 ghost use Rattle.engine.specs.Rules.{is_register, in_range};
 
 use super::instructions::Instruction;
+use context::LONGEST_STORE;
 
 // A register of the stack: r32 to r127.
 fn is_register(register: u64) -> bool
@@ -19,7 +20,7 @@ pub(crate) fn in_range(instruction: Instruction) -> bool
             context,
             start,
             size,
-        } => context <= 7 && start <= 65536 && size <= 65536,
+        } => context <= 7 && start <= LONGEST_STORE && size <= LONGEST_STORE,
         Instruction::Resume { context } | Instruction::Retire { context } => context <= 7,
         Instruction::Alloc { sof, sol, sor } => sof <= 127 && sol <= 127 && sor <= 15,
         Instruction::Write {

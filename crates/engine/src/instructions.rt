@@ -49,7 +49,7 @@ pub enum Answer {
         bsp: u64,
         rnat: u64,
     },
-    // State, context, base, marker word and BSP.
+    // State, context, base, marker word and BSP: five numbers as they are printed, in idle four zeros.
     State {
         state: State,
         context: u64,

@@ -17,7 +17,7 @@ mod sound;
 mod table;
 
 use asking::in_range;
-use context::{Context, Refusal};
+use context::{Context, LONGEST_STORE, Refusal};
 pub use instructions::{Answer, Instruction};
 use machine::EMPTY;
 pub use machine::{ContextTable, Machine, Mode, State};
@@ -37,7 +37,7 @@ impl Engine {
         if slots % 16 != 0 || slots < 96 || slots > 2048 {
             return Err(Refusal::Host);
         }
-        if words % 64 != 0 || words < 64 || words > 65536 {
+        if words % 64 != 0 || words < 64 || words > LONGEST_STORE {
             return Err(Refusal::Host);
         }
         Ok(Engine {
@@ -50,10 +50,7 @@ impl Engine {
                     entries: [EMPTY; 8],
                 },
                 mode: Mode::from(0),
-                counts: Counts {
-                    written: 0,
-                    read: 0,
-                },
+                counts: Counts::default(),
             },
         })
     }

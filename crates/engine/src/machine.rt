@@ -58,7 +58,8 @@ pub struct Machine {
     pub slots: u64,
     pub words: u64,
     pub state: State,
-    // The entry of the context that is driven; of no meaning in idle.
+    // The entry of the context that is driven; of no meaning in idle. Beside the state and not in it: three states of four have
+    // one, and a machine in idle keeps the last.
     pub current: usize,
     pub table: ContextTable,
     pub mode: Mode,

@@ -1,8 +1,7 @@
-// Instructions on the context that is driven: each takes it out of its entry, and puts it back.
-ghost use Rattle.std.specs.Prelude.{◌≡◌, true, false, cond, length, if◌then◌else◌, Ok, Err, ◌==◌};
+// Instructions on the context that is driven: each takes it out of its entry, and those that change it put it back.
+ghost use Rattle.std.specs.Prelude.{◌≡◌, true, false, cond, length, if◌then◌else◌, Err};
 ghost use Rattle.context.specs.declared.refusals.Refusal.TheVariants.{Mode};
-ghost use Rattle.context.specs.Frames.{called, covered, rotated_frame, reset_frame, previous_set, previous_answer, write_file, copy_file, add_file};
-ghost use Rattle.context.specs.Frames.{read_answer, one_register, two_registers, three_registers};
+ghost use Rattle.context.specs.Frames.{previous_set, previous_answer, read_answer};
 ghost use Rattle.context.specs.Scenes.{spilled};
 ghost use Rattle.context.specs.Spilling.{alloc_answer, alloc_after, flush_run, flush_answer, early_spill_answer, early_spill_after};
 ghost use Rattle.context.specs.Spilling.{early_fill_answer, early_fill_after};
@@ -11,13 +10,13 @@ ghost use Rattle.engine.specs.declared.instructions.Answer.TheVariants.{Done, Ma
 ghost use Rattle.engine.specs.declared.machine.State.TheVariants.{Running, Covered, Flushed};
 ghost use Rattle.engine.specs.Invariants.{is_idle, is_closed, is_flushed};
 ghost use Rattle.engine.specs.Tables.{record_at};
-ghost use Rattle.engine.specs.Hosts.{hosted, scene_of, lifted, in_state};
+ghost use Rattle.engine.specs.Hosts.{hosted, scene_of, lifted};
 ghost use Rattle.engine.specs.Running.{answered, restacked, shown_as, flushed_as, leaves, after_flush, spills_early, fills_early};
 
 use super::instructions::{Answer, shown};
 use super::machine::State;
 use super::sound::Engine;
-use context::{Context, Refusal};
+use context::Refusal;
 use register::{Kind, Slot};
 use store::Store;
 

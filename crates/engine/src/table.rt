@@ -1,4 +1,5 @@
-// Instructions on the table: begin, resume, retire, park; and the questions that alter nothing.
+// Instructions on the table: begin, resume, retire; what changes an entry; and the questions that alter nothing.
+// That an entry is one of the eight `in_range` asks once, before all of these: a type for it would be made for one call.
 ghost use Rattle.std.specs.Prelude.{◌≡◌, ◌<◌};
 ghost use Rattle.engine.specs.Tables.{record_at};
 ghost use Rattle.engine.specs.declared.machine.State.TheVariants.{Idle, Flushed};
@@ -7,8 +8,8 @@ ghost use Rattle.engine.specs.Hosts.{with_entry, put_back, driving, in_state, in
 ghost use Rattle.engine.specs.Changes.{FitsAfter, Changes};
 ghost use Rattle.engine.specs.Modes.{mode_of};
 ghost use Rattle.engine.specs.Running.{enters};
-ghost use Rattle.engine.specs.Rules.{lies_apart, is_clear, is_empty_entry, is_parked_entry, begin_answer, begin_machine};
-ghost use Rattle.engine.specs.Rules.{parked_answer, resume_machine, retire_machine, park_machine};
+ghost use Rattle.engine.specs.Rules.{lies_apart, is_clear, begin_answer, begin_machine};
+ghost use Rattle.engine.specs.Rules.{parked_answer, resume_machine, retire_machine};
 ghost use Rattle.engine.specs.declared.instructions.Answer.TheVariants.{Done, State as StateAnswer};
 ghost use Rattle.context.specs.Records.{bsp_of};
 ghost use Rattle.engine.specs.Steps.{state_of, counts_of, driven};
@@ -55,7 +56,8 @@ impl Engine {
         self.entry(self.machine.current)
     }
 
-    // Puts a context into the entry `k`; no other entry changes. Not by `drive`: what is driven stays.
+    // Puts a context into the entry `k`; no other entry changes. Not by `drive`: what is driven stays. A context and not its
+    // record, which has no invariant.
     fn replace(&mut self, k: usize, context: Context)
         requires entry { k < 8 }
         requires fits { Fits self.old.machine context.stack }

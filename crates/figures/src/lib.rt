@@ -19,14 +19,13 @@ pub struct MarkerFigures {
     pub lawful: [bool; 2],
 }
 
-// The fields of a lawful word; zeros for any other.
+// The fields of a lawful word.
 fn fields(word: u64) -> [u32; 4]
-    ensures { lawful_word word ≡ true → result ≡ sof_of word ∷ sol_of word ∷ sor_of word ∷ rotation_of word ∷ [] }
+    requires { lawful_word word ≡ true }
+    ensures { result ≡ sof_of word ∷ sol_of word ∷ sor_of word ∷ rotation_of word ∷ [] }
 {
-    match FrameMarker::try_from(word) {
-        Ok(marker) => [marker.sof(), marker.sol(), marker.sor(), marker.rotation()],
-        Err(_) => [0; 4],
-    }
+    let marker = FrameMarker::try_from(word).unwrap();
+    [marker.sof(), marker.sol(), marker.sor(), marker.rotation()]
 }
 
 // The addresses of positions 62, 63, 125 and 126, and the collection of a group with NaT at its first and last register.

@@ -6,6 +6,7 @@ use std::fmt;
 #[derive(Clone, Copy, Debug, PartialEq, Eq)]
 pub struct UnlawfulMarker;
 
+// By hand: the crates at the bottom stand on the standard library alone.
 impl fmt::Display for UnlawfulMarker {
     fn fmt<W: fmt::Write>(&self, f: &mut fmt::Formatter<W>) -> fmt::Result {
         f.write_str("no frame marker has these fields")

@@ -5,7 +5,7 @@ ghost use Rattle.moves.specs.Steps.{place_of};
 use store::StoreFault;
 
 // Words written and words read by moves; each stops at 2^64 − 1.
-#[derive(Clone, Copy, Debug, PartialEq, Eq)]
+#[derive(Clone, Copy, Debug, Default, PartialEq, Eq)]
 pub struct Counts {
     pub written: u64,
     pub read: u64,

@@ -1,5 +1,6 @@
 // Two paged stores of the same words and doors, over frames of their own, cannot be told apart by the same calls.
-// A function for each call: one that takes the call as a closure would say less of what it leaves.
+// A function for each call: one that takes the call as a closure would say less of what it leaves. The two stores stay two
+// parameters, since no struct may hold what is lent.
 ghost use Rattle.std.specs.Prelude.{◌≡◌};
 ghost use Rattle.store.specs.Paged.{meaning_of, landed, Alike, Same};
 ghost use Rattle.store.specs.Rules.{read_of, write_of, door_of, door_set};

@@ -1,6 +1,6 @@
 // The check of frames before a paged store is made.
 ghost use Rattle.std.specs.Prelude.{◌≡◌, MatchBool, MatchResult};
-ghost use Rattle.store.specs.Frames.{Fit, Below, Fresh, Different};
+ghost use Rattle.store.specs.Frames.{Fit, Below, Different};
 
 use std::error::Error;
 use std::fmt;
@@ -9,6 +9,7 @@ use std::fmt;
 #[derive(Clone, Copy, Debug, PartialEq, Eq, Hash)]
 pub struct HostRefused;
 
+// By hand: the crates at the bottom stand on the standard library alone.
 impl fmt::Display for HostRefused {
     fn fmt<W: fmt::Write>(&self, f: &mut fmt::Formatter<W>) -> fmt::Result {
         f.write_str("the host offers what no store or engine can be made of")

@@ -51,7 +51,8 @@ impl StoreFault {
     }
 }
 
-// A store of 64-bit words in pages of 64, each behind a door.
+// A store of 64-bit words in pages of 64, each behind a door. A word and its value, a page and its door stay two parameters: each
+// call has its own. That the memory under a store is lent on (`lent` below), each call that alters it says for itself.
 pub trait Store {
     ghost meaning: { Self → Meaning };
 

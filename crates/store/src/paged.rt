@@ -6,7 +6,7 @@ ghost use Rattle.store.specs.Pages.{frames_of};
 mod calls;
 
 // The frame that a page lies in, and whether its door is open.
-#[derive(Clone, Copy)]
+#[derive(Clone, Copy, Debug, PartialEq, Eq)]
 struct Page {
     frame: u64,
     open: bool,
