@@ -2,7 +2,6 @@
 #![tactic(auto)]
 
 ghost use Rattle.std.specs.Prelude.{◌≡◌, true, false, [], ◌∷◌, Some};
-ghost use Rattle.frame.specs.Markers.{sof_of, sol_of, sor_of, rotation_of, lawful_word};
 ghost use Rattle.figures.specs.Figures.{Figures};
 
 use address::{address_of, with_nat};
@@ -19,12 +18,10 @@ pub struct MarkerFigures {
     pub lawful: [bool; 2],
 }
 
-// The fields of a lawful word.
-fn fields(word: u64) -> [u32; 4]
-    requires { lawful_word word ≡ true }
-    ensures { result ≡ sof_of word ∷ sol_of word ∷ sor_of word ∷ rotation_of word ∷ [] }
+// The fields of a marker.
+fn fields(marker: FrameMarker) -> [u32; 4]
+    ensures { result ≡ marker.sof ∷ marker.sol ∷ marker.sor ∷ marker.rotation ∷ [] }
 {
-    let marker = FrameMarker::try_from(word).unwrap();
     [marker.sof(), marker.sol(), marker.sor(), marker.rotation()]
 }
 
@@ -48,10 +45,11 @@ pub fn marker_figures() -> MarkerFigures
     ensures defined { Figures }
 {
     let marker = FrameMarker::from_parts(9, 0, 1, 7).unwrap();
+    let first = FrameMarker::try_from(260).unwrap();
+    let second = FrameMarker::try_from(208992).unwrap();
     MarkerFigures {
         places: [32, 33, 40].map(|register| marker.place(register)),
-        // No `map` over the two words: tried, the clause `words` stays open.
-        words: [fields(260), fields(208992)],
+        words: [first, second].map(fields),
         lawful: [95, 96].map(|rotation| FrameMarker::from_parts(96, 96, 12, rotation).is_ok()),
     }
 }
