@@ -80,7 +80,8 @@ impl Engine {
         self.execute(slots, store, instruction)
     }
 
-    // An instruction whose operands are in range, in the state that there is.
+    // An instruction whose operands are in range, in the state that there is. Both are matched in place: what is allowed in which state
+    // is one table, so the file's length and the state are required of what it calls.
     fn execute<K: Kind, S: Store>(
         &mut self,
         slots: &mut [Slot<K>],

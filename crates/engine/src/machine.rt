@@ -46,7 +46,7 @@ impl From<u64> for Mode {
     }
 }
 
-// The eight contexts.
+// The eight contexts, plain records with markers as their words: a machine is easy to copy and to compare.
 #[derive(Clone, Copy, Debug, PartialEq, Eq)]
 pub struct ContextTable {
     pub entries: [ContextRecord; 8],

@@ -1,5 +1,6 @@
 // Instructions on the table: begin, resume, retire; what changes an entry; and the questions that alter nothing.
-// That an entry is one of the eight `in_range` asks once, before all of these: a type for it would be made for one call.
+// That an entry is one of the eight `in_range` asks once, before all of these: a type for it would be made for one call. What a record
+// must be to fit an entry in a state is one record of specs/, `Fits`, which depends on both, so that no type can say it.
 ghost use Rattle.std.specs.Prelude.{◌≡◌, ◌<◌};
 ghost use Rattle.engine.specs.Tables.{record_at};
 ghost use Rattle.engine.specs.declared.machine.State.TheVariants.{Idle, Flushed};

@@ -24,7 +24,8 @@ fn ask<S: Store>(store: &S, word: u64, place: Place) -> Result<(), MoveFault>
     Ok(())
 }
 
-// The runs here, of fills and of spills stay three loops: a shared one, or `try_for_each`, would lose what each step writes.
+// The runs here, of fills and of spills stay loops of their own, each over its own step: a loop that is passed its step would lose
+// what a step writes, and the questions are no shorter so.
 impl Cursor {
     // The words that spills until `end` write.
     pub fn ask_spills<S: Store>(&self, store: &S, end: u64) -> Result<(), MoveFault>

@@ -82,7 +82,7 @@ impl Cursor {
         at_place(self.fill_register(slots, store, position), place)
     }
 
-    // Fills the positions from `low` to `high` − 1, upward; at a fault the whole fills before it stand.
+    // Fills the positions from `low` to `high` − 1, upward; at a fault the whole fills before it stand. A loop of its own: `asking`.
     pub fn fill_run<K: Kind, S: Store>(
         &mut self,
         slots: &mut [Slot<K>],

@@ -74,7 +74,7 @@ impl Cursor {
         }
     }
 
-    // Spill steps until BSPSTORE is `end`, in order; at a fault the whole steps before it stand.
+    // Spill steps until BSPSTORE is `end`, in order; at a fault the whole steps before it stand. A loop of its own: `asking`.
     pub fn spill_until<K: Kind, S: Store>(
         &mut self,
         slots: &[Slot<K>],

@@ -113,7 +113,7 @@ fn lines_at_most(input: &[u8]) -> usize
     input.iter().filter(|b| **b == b'\n').count() + 1
 }
 
-// Prints an outcome.
+// Prints an outcome. No `Display`, for the reason that `printing` gives.
 pub fn push_outcome(out: &mut Vec<u8>, outcome: Outcome) -> Result<(), AllocError>
     ensures { Appends out.old out.new (printed outcome) result }
 {
