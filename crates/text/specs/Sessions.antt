@@ -72,3 +72,8 @@ module _ {C : Type 0} where
   abbrev pub NotRun : List (Slot C) → Meaning → SessionError → Type 0
   NotRun file m Memory = ⊤
   NotRun file m (Refused r) = (r ≡ R.Host) × (can_make (length file) (length m.words) ≡ false)
+
+  -- a host that was refused has its file and its store as they were
+  abbrev pub LeftAlone : SessionError → List (Slot C) → Meaning → List (Slot C) → Meaning → Type 0
+  LeftAlone Memory file m file' m' = ⊤
+  LeftAlone (Refused r) file m file' m' = (file' ≡ file) × (m' ≡ m)

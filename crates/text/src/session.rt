@@ -5,7 +5,7 @@ ghost use Rattle.text.specs.Outcomes.{fault_at, printed, Tells, Ends, Short};
 ghost use Rattle.text.specs.Printed.{Appends};
 ghost use Rattle.engine.specs.Hosts.{hosted};
 ghost use Rattle.text.specs.Lines.{end_bytes, lines_of};
-ghost use Rattle.text.specs.Sessions.{LineRuns, Runs, SessionRuns, SessionPrints, IsLawfulHost, NotRun, printed_all};
+ghost use Rattle.text.specs.Sessions.{LineRuns, Runs, SessionRuns, SessionPrints, IsLawfulHost, NotRun, LeftAlone, printed_all};
 
 use super::lines::first_line;
 use super::printing::{push_answer, push_end, push_refusal};
@@ -157,6 +157,7 @@ pub fn run_outcomes<K: Kind, S: Store>(
         slots.old (S.meaning store.old) input.now v.items slots.new (S.meaning store.new)) }
     ensures lawful { OnOk result (IsLawfulHost slots.old (S.meaning store.old)) }
     ensures not_run { IfErr result (NotRun slots.old (S.meaning store.old)) }
+    ensures untouched { IfErr result (λ e. LeftAlone e slots.old (S.meaning store.old) slots.new (S.meaning store.new)) }
 {
     let mut engine = Engine::new(slots.len() as u64, store.len())?;
     let outcomes = execute_lines(heap, &mut engine, slots, store, input)?;
@@ -174,6 +175,7 @@ pub fn run_session<K: Kind, S: Store>(
         slots.old (S.meaning store.old) input.now v.items slots.new (S.meaning store.new)) }
     ensures lawful { OnOk result (IsLawfulHost slots.old (S.meaning store.old)) }
     ensures not_run { IfErr result (NotRun slots.old (S.meaning store.old)) }
+    ensures untouched { IfErr result (λ e. LeftAlone e slots.old (S.meaning store.old) slots.new (S.meaning store.new)) }
 {
     let room = lines_at_most(input)
         .saturating_add(1)

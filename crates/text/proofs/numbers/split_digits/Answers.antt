@@ -12,6 +12,7 @@ returns c =
     let s = c.args.text.now in
     let w = c.take_while-digits in
     let count : c.count.result ≡ prefix_len is_ascii_digit s =
-    count_from_yields_List w.result c.count.result c.count.ensures.ran (YieldsList-from_take_while _ is_ascii_digit (YieldsList-from_slice s cc) w.ensures.closure w.ensures.done (λ x r q k. search (rules, tests)))
+    count_from_yields_List w.result c.count.result c.count.ensures.ran
+    (YieldsList-from_take_while _ is_ascii_digit (YieldsList-from_slice s cc) w.ensures.closure w.ensures.done (λ x r q k. search (rules, tests)))
     ∙ length-prefix_len is_ascii_digit s in
     record { digits = c.split_at.ensures.front ∙ ap (λ n. take n s) count; rest = c.split_at.ensures.back ∙ ap (λ n. drop n s) count }
