@@ -1,5 +1,5 @@
 -- A fact about each entry of a table stays when an entry that has it is put in.
-use Rattle.std.proofs.Common.{ℕ, zero, suc, ◌<◌, List, [], ◌∷◌, length, get_or, set, sym, subst, inl, inr, get_or-set_other, get_or-set_same}
+use Rattle.std.proofs.Common.{◌≡◌, ℕ, zero, suc, ◌<◌, Bool, true, false, ◌&&◌, List, [], ◌∷◌, length, get_or, set, sym, subst, inl, inr, arith, get_or-set_other, get_or-set_same}
 use Rattle.std.proofs.lemmas.Bool.{cases_eq}
 use Rattle.context.specs.declared.record.ContextRecord.{ContextRecord}
 use Rattle.engine.specs.Tables.{empty_record}
@@ -36,3 +36,12 @@ empties P h =
     (one_more P empty_record empty_record (empty_record ∷ empty_record ∷ []) h
     (one_more P empty_record empty_record (empty_record ∷ []) h
     (one_more P empty_record empty_record [] h (λ k. h))))))))
+
+-- what a test before the rest decides
+pub and_true : (b rest all : Bool) → b ≡ true → (b && rest) ≡ all → rest ≡ all
+and_true true rest all h k = k
+and_true false rest all h k = let z : ◌≡◌ {A = ℕ} 0 1 = cc in absurd (omega (arith, z))
+
+pub and_false : (b rest all : Bool) → b ≡ false → (b && rest) ≡ all → all ≡ false
+and_false true rest all h k = let z : ◌≡◌ {A = ℕ} 0 1 = cc in absurd (omega (arith, z))
+and_false false rest all h k = sym k

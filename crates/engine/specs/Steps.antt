@@ -58,10 +58,10 @@ in_covered_or_flushed Flushed allowed other = allowed
 
 -- state, context, base, marker word and BSP; all 0 in idle
 abbrev pub state_shown : State → ℕ → ContextRecord → Answer
-state_shown Idle k r = StateAnswer Idle 0 0 0 0
-state_shown Running k r = StateAnswer Running k r.base r.marker (bsp_of r)
-state_shown Covered k r = StateAnswer Covered k r.base r.marker (bsp_of r)
-state_shown Flushed k r = StateAnswer Flushed k r.base r.marker (bsp_of r)
+state_shown Idle k r = StateAnswer 0 0 0 0 0
+state_shown Running k r = StateAnswer 1 k r.base r.marker (bsp_of r)
+state_shown Covered k r = StateAnswer 2 k r.base r.marker (bsp_of r)
+state_shown Flushed k r = StateAnswer 3 k r.base r.marker (bsp_of r)
 
 abbrev pub state_of : Machine → Answer
 state_of m = state_shown m.state m.current (record_at m m.current)

@@ -2,7 +2,6 @@
 ghost use Rattle.std.specs.Prelude.{◌≡◌};
 ghost use Rattle.engine.specs.Running.{shown_as};
 
-use super::machine::State;
 use register::{Kind, Slot};
 
 // Operands are numbers as a line has them, the NaT bit and the mode too: their range is asked in one place.
@@ -49,9 +48,10 @@ pub enum Answer {
         bsp: u64,
         rnat: u64,
     },
-    // State, context, base, marker word and BSP: five numbers as they are printed, in idle four zeros.
+    // State, context, base, marker word and BSP; all 0 in idle. The state by its number, and no `State`: whoever prints an answer
+    // may have any number there.
     State {
-        state: State,
+        state: u64,
         context: u64,
         base: u64,
         marker: u64,

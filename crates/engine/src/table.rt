@@ -7,7 +7,7 @@ ghost use Rattle.engine.specs.declared.machine.State.TheVariants.{Idle, Flushed}
 ghost use Rattle.engine.specs.Invariants.{Fits};
 ghost use Rattle.engine.specs.Hosts.{with_entry, put_back, driving, in_state, in_mode};
 ghost use Rattle.engine.specs.Changes.{FitsAfter, Changes};
-ghost use Rattle.engine.specs.Modes.{mode_of};
+ghost use Rattle.engine.specs.Modes.{mode_of, state_number};
 ghost use Rattle.engine.specs.Running.{enters};
 ghost use Rattle.engine.specs.Rules.{lies_apart, is_clear, begin_answer, begin_machine};
 ghost use Rattle.engine.specs.Rules.{parked_answer, resume_machine, retire_machine};
@@ -222,7 +222,7 @@ impl Engine {
     {
         match self.machine.state {
             State::Idle => Answer::State {
-                state: State::Idle,
+                state: u64::from(State::Idle),
                 context: 0,
                 base: 0,
                 marker: 0,
@@ -234,12 +234,12 @@ impl Engine {
 
     // What that question shows of the context that is driven.
     fn shown(&self, state: State) -> Answer
-        ensures { result ≡ StateAnswer state self.now.machine.current (driven self.now.machine).base (driven
+        ensures { result ≡ StateAnswer (state_number state) self.now.machine.current (driven self.now.machine).base (driven
             self.now.machine).marker (bsp_of (driven self.now.machine)) }
     {
         let context = self.context();
         Answer::State {
-            state,
+            state: u64::from(state),
             context: context.number,
             base: u64::from(context.stack.base),
             marker: context.stack.marker,

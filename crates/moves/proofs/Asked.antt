@@ -8,11 +8,12 @@ use Rattle.store.specs.Meaning.{Meaning}
 use Rattle.store.specs.Rules.{is_open}
 use Rattle.moves.specs.declared.state.Cursor.{Cursor}
 use Rattle.moves.specs.declared.state.MoveFault.{MoveFault}
-use Rattle.moves.specs.declared.state.Movement.TheVariants.{Spill, Fill}
+use Rattle.moves.specs.declared.state.Movement.TheVariants.{Spill, Fill, Lowering}
 use Rattle.moves.specs.Steps.{MoveResult, ask_of, fault_at}
 use Rattle.moves.specs.Fills.{word_of, is_near, fill_open, fill_shut, fill_answer}
+use Rattle.moves.specs.Lowers.{lower_reads, lower_answer}
 use Rattle.moves.specs.Asks.{spills_asked, fills_asked}
-use Rattle.moves.specs.Told.{SpillNeeds, FillNeeds, Told, Lowest}
+use Rattle.moves.specs.Told.{SpillNeeds, FillNeeds, LowerNeeds, Told, Lowest}
 
 -- in a store of whole pages a word and its collection have one door
 same_door : (m : Meaning) (w : ℕ) → Aligned (length m.words) → is_open m (collection_of w) ≡ is_open m w
@@ -152,3 +153,17 @@ module _ (m : Meaning) (context : ℕ) where
       cond_both (fill_open c m p) (fills_asked m context c n (p + 1)) (fill_answer m context c p) (Fills c p high)
       (λ o. fills-wider c p high (fills_asked m context c n (p + 1)) o (fills_told c n (p + 1) high (omega arith)))
       (λ o. subst (Fills c p high) (sym (cond-false (fill_open c m p) (Ok tt) (Err (fault_at m (fill_shut c m p) Fill context p)) o)) (fills-stop c p high lt o))
+
+  -- ---- lowering
+
+  pub lower_told : (c : Cursor) (w : ℕ) → Told m Lowering context (LowerNeeds c w) (lower_answer m context c w)
+  lower_told c w =
+      let q = collection_of w in
+      let p = positions_below c.start w in
+      let f : MoveFault = fault_at m q Lowering context p in
+      let P : MoveResult → Type 0 = Told m Lowering context (LowerNeeds c w) in
+      cond_both (lower_reads c w) (ask_of m q Lowering context p) (Ok tt) P
+      (λ reads. cond_both (is_open m q) (Ok tt) (Err f) P
+      (λ o x k need. ap (is_open m) need.1 ∙ o)
+      (λ o. record { needed = (reads, refl, refl); shut = o; cause = refl; movement = refl; context = refl }))
+      (λ none x k need. absurd (both_ways (lower_reads c w) none need.0))

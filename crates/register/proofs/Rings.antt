@@ -1,7 +1,11 @@
 -- What putting and clearing show, position by position.
-use Rattle.std.proofs.Common.{◌≡◌, ℕ, zero, suc, ◌%◌, ◌<◌, ◌≢◌, List, length, mod-lt, div-add-mod', arith, length-set, get_or-set_other, get_or-set_same}
-use Rattle.register.specs.Slots.{register_at, register_put, registers_cleared, Near, PutShows, ClearShows}
+use Rattle.std.proofs.Common.{◌≡◌, ℕ, zero, suc, ◌+◌, ◌-◌, ◌%◌, ◌<◌, ◌≤◌, ◌≢◌, List, length, ap, ◌∙◌, mod-lt, div-add-mod', arith, length-set, get_or-set_other, get_or-set_same}
+use Rattle.register.specs.Slots.{register_at, register_put, registers_cleared, cleared_slot, Near, PutShows, ClearShows}
 use Rattle.register.specs.declared.Slot.{Slot}
+
+-- two positions less than n apart use two slots
+pub apart : (n a b : ℕ) → a < b → b < a + n → a % n ≢ b % n
+apart n a b lt near e = grind (arith, div-add-mod')
 
 -- two different positions among n consecutive ones use two slots
 differ : (n p q : ℕ) → q ≢ p → Near n p q → q % n ≢ p % n
@@ -30,3 +34,11 @@ module _ {C : Type 0} where
   pub clear_shows : (nought : C) (slots : List (Slot C)) (k p : ℕ) → ClearShows nought slots k p (registers_cleared nought k p slots)
   clear_shows nought slots zero p = grind arith
   clear_shows nought slots (suc k) p = grind (arith, put_laws, clear_shows nought slots k p)
+
+  -- one position more
+  pub cleared_more : (nought : C) (slots : List (Slot C)) (low p : ℕ) → low ≤ p
+      → registers_cleared nought (p + 1 - low) low slots ≡ register_put (registers_cleared nought (p - low) low slots) p (cleared_slot nought)
+  cleared_more nought slots low p h =
+      let one : p + 1 - low ≡ suc (p - low) = omega arith in
+      let here : low + (p - low) ≡ p = omega arith in
+      ap (λ n. registers_cleared nought n low slots) one ∙ ap (λ n. register_put (registers_cleared nought (p - low) low slots) n (cleared_slot nought)) here

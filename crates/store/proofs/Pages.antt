@@ -1,6 +1,6 @@
 -- The pages of a paged store: made, found, and turned.
 use Rattle.std.proofs.Common.{◌≡◌, ℕ, ◌+◌, ◌*◌, ◌/◌, ◌%◌, ◌<◌, ◌≤◌, Bool, true, false, ◌&&◌, nat_lt, Bor, Option, Some, None, List, map, length, get_or, set, vec_items, vec_len, subst, sym, ap, refl, ◌∙◌, arith}
-use Rattle.std.specs.Prelude.{MatchOption, option_copied}
+use Rattle.std.specs.Prelude.{MatchOption}
 use Rattle.std.specs.Slice.{IsItemAt}
 use Rattle.std.proofs.Math.Seq.{map-set_same}
 use Rattle.std.proofs.lemmas.List.{get_or-map, map-id, map-set}
@@ -34,7 +34,7 @@ door_moved pages i page b = map-set (λ p. p.open) pages i (record { frame = pag
 
 -- what is found at a page's number is that page, of each of its words
 pub page_found : (s : PagedStore) (w : ℕ) (o : Option (Bor Page)) → IsItemAt (vec_items s.pages) (w / 64) o
-    → MatchOption (option_copied o) (length (words_of s) ≤ w) (IsPageOf s w)
+    → MatchOption o (length (words_of s) ≤ w) (λ b. IsPageOf s w b.now)
 page_found s w None e =
     let pages = vec_items s.pages in
     let past : length pages ≤ w / 64 = grind arith in

@@ -31,9 +31,10 @@ impl HostRefused {
 fn sound(n: u64, frames: &[u64]) -> bool
     ensures { MatchBool result (Below frames.now n × Different frames.now) (Below frames.now n → Different frames.now → ⊥) }
 {
-    // A loop: its invariant is a line, where `all` over the same chain leaves a goal.
+    // A loop: its invariant is a line, where `all` over the same chain leaves a goal. And `any` in it: `contains` takes nearly twice
+    // the time on numbers.
     for (i, frame) in frames.iter().enumerate() {
-        if *frame >= n || frames[..i].contains(frame) {
+        if *frame >= n || frames[..i].iter().any(|earlier| earlier == frame) {
             return false;
         }
     }

@@ -56,6 +56,12 @@ impl StoreFault {
 pub trait Store {
     ghost meaning: { Self → Meaning };
 
+    // What each store proves: its words fit a number, and there is one flag for each page. Above the functions, so that a
+    // clause can name both.
+    ghost bounded: { (s : Self) → length (meaning s).words < 2 ^ 64 };
+
+    ghost flagged: { (s : Self) → length (meaning s).flags ≡ length (meaning s).words / 64 };
+
     fn len(&self) -> u64
         ensures { result ≡ length (meaning self.now).words };
 
@@ -72,9 +78,4 @@ pub trait Store {
     fn set_door(&mut self, page: u64, open: bool) -> Result<(), Cause>
         ensures answer { result ≡ door_of (meaning self.old) page }
         ensures after { meaning self.new ≡ door_set (meaning self.old) page «open» };
-
-    // What each store proves: its words fit a number, and there is one flag for each page.
-    ghost bounded: { (s : Self) → length (meaning s).words < 2 ^ 64 };
-
-    ghost flagged: { (s : Self) → length (meaning s).flags ≡ length (meaning s).words / 64 };
 }

@@ -69,3 +69,33 @@ fn refused(rt: HostRuntime) -> Result<(), Fail> {
         b"no 17\n",
     )
 }
+
+// A state is told by its number, whatever number that is.
+#[test]
+fn states(rt: HostRuntime) -> Result<(), Fail> {
+    let heap = rt.alloc();
+    shown(
+        &rt,
+        heap,
+        Ok(Answer::State {
+            state: 3,
+            context: 1,
+            base: 2,
+            marker: 3,
+            bsp: 5,
+        }),
+        b"ok 3 1 2 3 5\n",
+    )?;
+    shown(
+        &rt,
+        heap,
+        Ok(Answer::State {
+            state: 18446744073709551615,
+            context: 1,
+            base: 2,
+            marker: 3,
+            bsp: 5,
+        }),
+        b"ok 18446744073709551615 1 2 3 5\n",
+    )
+}

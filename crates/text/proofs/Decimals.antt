@@ -1,16 +1,15 @@
 -- Facts about what a text's digits come to. Assumes nothing.
-use Rattle.std.proofs.Common.{◌≡◌, ℕ, ◌+◌, ◌^◌, ◌<◌, ◌≤◌, Bool, true, false, cond, not, ◌&&◌, eqb, ltb, List, [], ◌∷◌, ◌++◌, length, get_or, drop, Some, None, Ok, Err, Result, IsUtf8, decimal, one-add, sym, refl, ap, ◌∙◌, subst, ⊎_elim, arith}
-use Rattle.std.proofs.lemmas.Fmt.{decimal_digit, decimal_nonempty, decimal-digits_value, digits_decimal, first_decimal, IsAscii-from_digits, digits_value-decimal}
-use Rattle.std.proofs.lemmas.List.{nil_from_length, take-append-drop}
-use Rattle.std.proofs.lemmas.Str.Parse.{IsNumeralModel, numerals_by_value, parse_digits, tells_all_ascii_digits}
+use Rattle.std.proofs.Common.{◌≡◌, ℕ, ◌+◌, ◌-◌, ◌*◌, ◌^◌, ◌<◌, ◌≤◌, Bool, true, false, cond, not, ◌&&◌, eqb, ltb, List, [], ◌∷◌, ◌++◌, length, get_or, take, drop, decimal, one-add, sym, refl, ap, ◌∙◌, subst, ⊎_elim, arith}
+use Rattle.std.proofs.lemmas.Fmt.{decimal_digit, decimal_nonempty, decimal-digits_value, digits_decimal, first_decimal, digits_value-decimal}
+use Rattle.std.proofs.lemmas.List.{nil_from_length, take-append-drop, take_all}
+use Rattle.std.proofs.lemmas.Str.Parse.{IsNumeralModel, numerals_by_value, tells_all_ascii_digits}
 use Rattle.std.proofs.lemmas.List.Sums.{take_while-cons}
-use Rattle.std.proofs.lemmas.Str.{IsUtf8-from_ascii}
 use Rattle.std.proofs.lemmas.Bool.{and_parts, and_from, and_left, and_right, cases_eq, cases_lt, eq-eqb, ne_eqb, lt-ltb, ltb-true, not_from_false}
-use Rattle.std.specs.Char.{is_ascii_digit}
+use Rattle.std.proofs.lemmas.Bool.Decides.{nat_tests}
+use Rattle.std.specs.Char.{is_ascii_digit, digit_value}
 use Rattle.std.specs.List.{prefix_len}
-use Rattle.std.specs.Result.{MatchResult, OkIff, result_ok}
 use Rattle.std.specs.Str.{all_ascii_digits}
-use Rattle.std.specs.Str.Parse.{ParsesUnsigned, digits_value}
+use Rattle.std.specs.Str.Parse.{digits_value, digits_value_after}
 use Rattle.text.specs.Numbers.{worth, first_digits, after_digits, begins_with_digit, begins_well, readable, spaced, Takes, Words}
 
 own : IsNumeralModel (λ ds. all_ascii_digits ds ≡ true) (digits_value 10)
@@ -33,6 +32,48 @@ digits_split (c ∷ cs) t h stop =
       take_while-cons is_ascii_digit c (cs ++ t) ∙ ap (λ v. cond v (c ∷ first_digits (cs ++ t)) []) e.0 ∙ ap (λ x. c ∷ x) k.0,
       after_cons c (cs ++ t) ∙ ap (λ v. cond v (after_digits (cs ++ t)) (c ∷ (cs ++ t))) e.0 ∙ k.1,
     )
+
+-- ---- one digit after another
+
+pub begins : (s : List ℕ) → 0 < length s → 48 ≤ get_or s 0 0 → get_or s 0 0 < 58 → begins_with_digit s ≡ true
+begins [] h lo hi = let z : ⊥ = omega arith in absurd z
+begins (b ∷ bs) h lo hi = grind (arith, nat_tests)
+
+pub begins_not : (s : List ℕ) → (0 < length s → 48 ≤ get_or s 0 0 → get_or s 0 0 < 58 → ⊥) → begins_with_digit s ≡ false
+begins_not [] no_digit = refl
+begins_not (b ∷ bs) no_digit = grind (arith, nat_tests)
+
+-- what the digits that a text begins with come to, after digits that come to n
+abbrev pub worth_after : ℕ → List ℕ → ℕ
+worth_after n s = digits_value_after 10 n (first_digits s)
+
+digit_is : (b : ℕ) → is_ascii_digit b ≡ true → digit_value b ≡ b - 48
+digit_is b h = grind (arith, nat_tests)
+
+-- one digit on: what is left is as code cuts it off
+pub worth_step : (n : ℕ) (s : List ℕ) → begins_with_digit s ≡ true → worth_after n s ≡ worth_after (n * 10 + (get_or s 0 0 - 48)) (take (length s - 1) (drop 1 s))
+worth_step n [] h = cc
+worth_step n (b ∷ bs) h =
+    ap (digits_value_after 10 n) (take_while-cons is_ascii_digit b bs ∙ ap (λ v. cond v (b ∷ first_digits bs) []) h)
+    ∙ ap (λ d. digits_value_after 10 (n * 10 + d) (first_digits bs)) (digit_is b h)
+    ∙ ap (worth_after (n * 10 + (b - 48))) (sym (take_all (length (b ∷ bs) - 1) bs (omega arith)))
+
+pub after_step : (s : List ℕ) → begins_with_digit s ≡ true → after_digits s ≡ after_digits (take (length s - 1) (drop 1 s))
+after_step [] h = cc
+after_step (b ∷ bs) h = after_cons b bs ∙ ap (λ t. cond t (after_digits bs) (b ∷ bs)) h ∙ ap after_digits (sym (take_all (length (b ∷ bs) - 1) bs (omega arith)))
+
+pub worth_stop : (n : ℕ) (s : List ℕ) → begins_with_digit s ≡ false → worth_after n s ≡ n
+worth_stop n s h = ap (digits_value_after 10 n) (digits_alone s h).0
+
+pub after_stop : (s : List ℕ) → begins_with_digit s ≡ false → after_digits s ≡ s
+after_stop s h = (digits_alone s h).1
+
+value_grows : (n : ℕ) (ds : List ℕ) → n ≤ digits_value_after 10 n ds
+value_grows n [] = omega arith
+value_grows n (d ∷ ds) = omega (arith, value_grows (n * 10 + digit_value d) ds)
+
+pub worth_grows : (n : ℕ) (s : List ℕ) → n ≤ worth_after n s
+worth_grows n s = value_grows n (first_digits s)
 
 first_digits_all : (s : List ℕ) → all_ascii_digits (first_digits s) ≡ true
 first_digits_all [] = refl
@@ -83,44 +124,6 @@ well_append (c ∷ cs) t h some alone stop =
     (λ q. not_from_false _ (and_right (eqb c 48) (begins_with_digit (cs ++ t)) (zero q)))
     (λ q. not_from_false _ (and_left (eqb c 48) (begins_with_digit (cs ++ t)) (ne_eqb c 48 q)))
     (cases_eq c 48))
-
--- the digits that a text begins with are a `str`
-digits_text : (s : List ℕ) → IsUtf8 (first_digits s)
-digits_text s = IsUtf8-from_ascii (first_digits s) (IsAscii-from_digits (first_digits s) (own.to (first_digits s) (first_digits_all s)))
-
-not_true_false : (b : Bool) → (b ≡ true → ⊥) → b ≡ false
-not_true_false true h = absurd (h refl)
-not_true_false false h = refl
-
--- a 0 before another digit
-pub zero_led : (s : List ℕ) → 2 ≤ length (first_digits s) → get_or (first_digits s) 0 0 ≡ 48 → readable s ≡ false
-zero_led s long zero = not_true_false (readable s) (λ h. omega (arith, (first_digits_well s (and_parts (begins_well s) (ltb (worth s) (2 ^ 64)) h).0).1 zero))
-
-pub digits_read : {X E : Type 0} (P : X → Type 0) (Q : E → Type 0) (s ds : List ℕ) (r : Result X E) → ds ≡ first_digits s → MatchResult r P (λ e. ¬ (IsUtf8 ds) × Q e) → result_ok r ≡ None → ⊥
-digits_read P Q s ds (Ok x) e h none = cc
-digits_read P Q s ds (Err x) e h none = h.0 (rw e (digits_text s))
-
--- what `parse` makes of the digits that a text begins with
-pub number_none : {E : Type 0} (s : List ℕ) (r : Result ℕ E) → ParsesUnsigned 64 10 (first_digits s) r → result_ok r ≡ None → readable s ≡ false
-number_none {E = E} s r h none = go r (parse_digits own 64 (first_digits s) r h (first_digits_all s)) none
-  where
-    go : (r : Result ℕ E) → OkIff r ((0 < length (first_digits s)) × (worth s < 2 ^ 64)) (worth s) → result_ok r ≡ None → readable s ≡ false
-    go (Ok n) k none = cc
-    go (Err e) k none = not_true_false (readable s) (λ t. let e = and_parts (begins_well s) (ltb (worth s) (2 ^ 64)) t in k ((first_digits_well s e.0).0, ltb-true _ _ e.1))
-
-pub number_some : {E : Type 0} (s : List ℕ) (r : Result ℕ E) (n : ℕ) → ParsesUnsigned 64 10 (first_digits s) r → result_ok r ≡ Some n
-    → (get_or (first_digits s) 0 0 ≡ 48 → length (first_digits s) ≤ 1) → (readable s ≡ true) × (n ≡ worth s)
-number_some {E = E} s r n h some alone = go r (parse_digits own 64 (first_digits s) r h (first_digits_all s)) some
-  where
-    go : (r : Result ℕ E) → OkIff r ((0 < length (first_digits s)) × (worth s < 2 ^ 64)) (worth s) → result_ok r ≡ Some n → (readable s ≡ true) × (n ≡ worth s)
-    go (Ok m) k some =
-        let same : m ≡ n = cc in (
-          and_from _ _
-              (ap begins_well (sym (take-append-drop (prefix_len is_ascii_digit s) s)) ∙ well_append (first_digits s) (after_digits s) (first_digits_all s) k.0.0 (λ z. omega (arith, alone z, k.0.0)) (after_stops s))
-              (lt-ltb _ _ k.0.1),
-          sym same ∙ k.1,
-        )
-    go (Err e) k some = cc
 
 -- what `{n}` writes, and then no digit, is readable, and read as n
 pub numeral_only : (n : ℕ) (t : List ℕ) → n < 2 ^ 64 → begins_with_digit t ≡ false

@@ -6,7 +6,6 @@ use Rattle.context.specs.declared.refusals.Refusal.TheVariants as R
 use Rattle.engine.specs.declared.instructions.Answer.{Answer}
 use Rattle.engine.specs.declared.instructions.Answer.TheVariants as A
 use Rattle.context.specs.Refusals.{refusal_number}
-use Rattle.engine.specs.Modes.{state_number}
 use Rattle.text.specs.Numbers.{spaced}
 
 -- a call that adds bytes to v, leaving w: they stand at the end, no room is lost, and it fails only for want of room
@@ -21,7 +20,7 @@ values_of A.Done = []
 values_of (A.Marker word) = word ∷ []
 values_of (A.Register image nat) = image ∷ (if nat then 1 else 0) ∷ []
 values_of (A.Flushed bsp rnat) = bsp ∷ rnat ∷ []
-values_of (A.State state k base marker bsp) = state_number state ∷ k ∷ base ∷ marker ∷ bsp ∷ []
+values_of (A.State state k base marker bsp) = state ∷ k ∷ base ∷ marker ∷ bsp ∷ []
 values_of (A.Counts w r) = w ∷ r ∷ []
 
 -- the word that a refusal tells beside its number

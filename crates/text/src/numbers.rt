@@ -1,25 +1,35 @@
 // Decimal numbers.
-ghost use Rattle.std.specs.Prelude.{◌≡◌};
-ghost use Rattle.text.specs.Numbers.{first_digits, after_digits, NumberOf};
+ghost use Rattle.std.specs.Prelude.{◌≡◌, ◌+◌, ◌*◌, ◌^◌, ◌≤◌, MatchOption};
+ghost use Rattle.text.specs.Numbers.{worth, after_digits, NumberOf};
 
-// The digits that a text begins with, and what follows them.
-fn split_digits(text: &[u8]) -> (&[u8], &[u8])
-    ensures digits { result.0.now ≡ first_digits text.now }
-    ensures rest { result.1.now ≡ after_digits text.now }
+// One digit more, where the number still fits.
+fn grown(n: u64, digit: u8) -> Option<u64>
+    ensures { MatchOption result (2 ^ 64 ≤ n * 10 + digit) (λ m. m ≡ n * 10 + digit) }
 {
-    let digits = text.iter().take_while(|b| b.is_ascii_digit());
-    text.split_at(digits.count())
+    n.checked_mul(10)?.checked_add(u64::from(digit))
+}
+
+// The number that the digits at the start of the text come to, and what follows them; none where it passes 64 bits.
+// One walk, that stops there: `from_utf8` and `parse` would take three, to the last digit.
+fn digits(text: &[u8]) -> Option<(u64, &[u8])>
+    ensures { MatchOption result (2 ^ 64 ≤ worth text.now) (λ p. (p.0 ≡ worth text.now) × (p.1.now ≡ after_digits text.now)) }
+{
+    let mut n: u64 = 0;
+    let mut rest = text;
+    while let [digit @ b'0'..=b'9', tail @ ..] = rest {
+        n = grown(n, *digit - b'0')?;
+        rest = tail;
+    }
+    Some((n, rest))
 }
 
 // A decimal number below 2^64 without leading zeros, and what follows it.
-#[tactic(auto, using(crate::proofs::Decimals::number_none, crate::proofs::Decimals::zero_led))]
 pub(crate) fn number(text: &[u8]) -> Option<(u64, &[u8])>
     ensures { NumberOf text.now result }
 {
-    let (digits, rest) = split_digits(text);
-    let n = str::from_utf8(digits).ok()?.parse().ok()?;
-    match digits {
-        [b'0', _, ..] => None,
-        _ => Some((n, rest)),
+    match text {
+        [b'0', b'0'..=b'9', ..] => None,
+        [b'0'..=b'9', ..] => digits(text),
+        _ => None,
     }
 }

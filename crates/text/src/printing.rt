@@ -1,6 +1,6 @@
 // Printing: `ok` and the answers, or `no` and the number of the refusal (for a shut word also the word).
 // No `Display` here: `write!` does not promise that a call succeeds where the vector has room.
-ghost use Rattle.std.specs.Prelude.{[], ◌∷◌, ◌++◌};
+ghost use Rattle.std.specs.Prelude.{[], ◌∷◌, ◌++◌, decimal};
 ghost use Rattle.text.specs.Numbers.{spaced};
 ghost use Rattle.text.specs.Printed.{Appends, printed_answer, printed_refusal, printed_end};
 
@@ -15,12 +15,30 @@ fn push_bytes(out: &mut Vec<u8>, bytes: &[u8]) -> Result<(), AllocError>
     out.extend_from_slice(bytes)
 }
 
+// Writes a byte.
+fn push_byte(out: &mut Vec<u8>, byte: u8) -> Result<(), AllocError>
+    ensures { Appends out.old out.new (byte ∷ []) result }
+{
+    out.push(byte)?;
+    Ok(())
+}
+
+// Writes a number in decimal; one digit, as most numbers have, without the buffer that the digits of others are made in.
+fn push_number(out: &mut Vec<u8>, n: u64) -> Result<(), AllocError>
+    ensures { Appends out.old out.new (decimal n) result }
+{
+    if n < 10 {
+        return push_byte(out, b'0' + n as u8);
+    }
+    push_bytes(out, itoa::Buffer::new().format(n).as_bytes())
+}
+
 // Writes a space and a number.
 fn push_value(out: &mut Vec<u8>, n: u64) -> Result<(), AllocError>
     ensures { Appends out.old out.new (spaced (n ∷ [])) result }
 {
-    push_bytes(out, b" ")?;
-    push_bytes(out, itoa::Buffer::new().format(n).as_bytes())
+    push_byte(out, b' ')?;
+    push_number(out, n)
 }
 
 // Writes a line: a word, values and the end byte.
@@ -31,7 +49,7 @@ fn push_line(out: &mut Vec<u8>, word: &[u8], values: &[u64]) -> Result<(), Alloc
     for v in values {
         push_value(out, *v)?;
     }
-    push_bytes(out, b"\n")
+    push_byte(out, b'\n')
 }
 
 // Prints an answer.
@@ -49,7 +67,7 @@ pub fn push_answer(out: &mut Vec<u8>, answer: Answer) -> Result<(), AllocError>
             base,
             marker,
             bsp,
-        } => push_line(out, b"ok", &[u64::from(state), context, base, marker, bsp]),
+        } => push_line(out, b"ok", &[state, context, base, marker, bsp]),
         Answer::Counts { written, read } => push_line(out, b"ok", &[written, read]),
     }
 }

@@ -3,7 +3,7 @@ ghost use Rattle.std.specs.Prelude.{◌≡◌, ◌*◌, ◌<◌, ◌≤◌, leng
 ghost use Rattle.store.specs.Frames.{Fit, no_words};
 ghost use Rattle.store.specs.Pages.{Opened};
 ghost use Rattle.store.specs.Paged.{meaning_of, words_of, store_frames, store_doors, found_of, landed, Lies, IsPageOf, Laid};
-ghost use Rattle.store.specs.Paging.{words_bounded, words_flagged};
+ghost use Rattle.store.specs.Paging.{pages_bounded, pages_flagged};
 ghost use Rattle.store.specs.Rules.{write_of, written, door_of, door_set};
 
 use super::{Page, PagedStore};
@@ -50,10 +50,10 @@ impl<'a> PagedStore<'a> {
     }
 
     // The page of word `w`, if it is there.
-    fn page(&self, w: u64) -> Option<Page>
-        ensures { MatchOption result (length (words_of self.now) ≤ w) (IsPageOf self.now w) }
+    fn page(&self, w: u64) -> Option<&Page>
+        ensures { MatchOption result (length (words_of self.now) ≤ w) (λ page. IsPageOf self.now w page.now) }
     {
-        self.pages.get((w / 64) as usize).copied()
+        self.pages.get((w / 64) as usize)
     }
 
     // The place of word `w`, if its page is there and open.
@@ -93,9 +93,9 @@ impl<'a> PagedStore<'a> {
 impl<'a> Store for PagedStore<'a> {
     ghost meaning = { meaning_of };
 
-    ghost bounded = { λ s. words_bounded s.memory.now s.pages s.few };
+    ghost bounded = { λ s. pages_bounded s.memory.now s.pages s.few };
 
-    ghost flagged = { λ s. words_flagged s.memory.now s.pages.items };
+    ghost flagged = { λ s. pages_flagged s.memory.now s.pages.items };
 
     fn len(&self) -> u64 {
         self.count() * 64

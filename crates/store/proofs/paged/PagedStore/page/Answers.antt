@@ -9,4 +9,4 @@ returns c =
     let s = c.args.self.now in
     let P : List Page → Type 0 = λ pages. IsItemAt pages (c.args.w / 64) c.get.result in
     let found : P (vec_items s.pages) = subst P c.deref.ensures.value c.get.ensures.lookup in
-    rw c.copied.ensures (page_found s c.args.w c.get.result found)
+    page_found s c.args.w c.get.result found
